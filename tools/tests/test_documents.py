@@ -54,6 +54,11 @@ def test_links_lead_somewhere():
             assert not anchor or anchor in anchors(to), f"{path}: {link}#{anchor}"
 
 
+def test_the_rules_have_a_list_of_their_sections():
+    text = read("docs/LOGIC.md")
+    same(re.findall(r"^ *- \[(.*)\]\(#", text, re.M), re.findall(r"^###? (\d.*)$", text, re.M))
+
+
 def words_of(crate):
     """The words of a crate's code and definitions, without comments, and the names of their files."""
     paths = [

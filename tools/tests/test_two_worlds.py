@@ -238,24 +238,34 @@ def test_many_cells_in_every_cut():
     same(answer(["changes", "--tile", "3", *places]), (1, b"", b"fault 6 Cut: 3 TooMany\n"))
 
 
+def statement_at(world, user, place):
+    """The statement at a place of an identity policy of a user."""
+    _, policy, number = place.split("/")
+    identity = next(it["identity"] for it in world["principals"] if it["user"] == user)
+    found = identity[int(policy)]["Statement"]
+    return found[int(number)] if isinstance(found, list) else found
+
+
 def said(world):
-    """What the program says of each request of a world."""
+    """What the program says of each request of a world, and the statements that decide it."""
     status, text, _ = answer(["matrix", "--workers", "1"], json.dumps(world).encode())
     same(status, 0)
     rows = list(csv.reader(io.StringIO(text.decode())))[1:]
-    return {(row[1], row[2], row[3]): (row[4], row[5], row[6]) for row in rows}
+    return {
+        (row[1], row[2], row[3]): (*row[4:7], [statement_at(world, row[1], it) for it in row[5].split()]) for row in rows
+    }
 
 
 def held(before, after, is_all):
     """The rows of what two worlds say of their requests."""
-    rows, nothing = [], ("", "", "")
+    rows, nothing = [], ("", "", "", [])
     for request in [*after, *(it for it in before if it not in after)]:
         one, other = before.get(request, nothing), after.get(request, nothing)
         was, now = one[0] == "allowed", other[0] == "allowed"
         if was != now:
-            rows.append(("gained" if now else "lost", *request, one[0], other[0], *one[1:], *other[1:]))
+            rows.append(("gained" if now else "lost", *request, one[0], other[0], *one[1:3], *other[1:3]))
         elif is_all and one != other and request in before and request in after:
-            rows.append(("differs", *request, one[0], other[0], *one[1:], *other[1:]))
+            rows.append(("differs", *request, one[0], other[0], *one[1:3], *other[1:3]))
     return rows
 
 

@@ -3,8 +3,10 @@ use Rattle.std.proofs.Common.{◌≡◌, ℕ, ◌+◌, ◌*◌, ◌<◌, get_or,
 use Rattle.std.specs.List.{slice_get}
 use Rattle.std.proofs.lemmas.Bool.{cases_lt}
 use Rattle.std.proofs.lemmas.Option.{slice_get-get_or}
+use Rattle.iam_decision.specs.Applicable.{ApplicableValue}
 use Rattle.iam_decision.specs.declared.verdict.Verdict.{Verdict}
-use Rattle.iam_layers.specs.Cell.{IsVerdictOf}
+use Rattle.iam_layers.specs.Applicable.{applicable_of}
+use Rattle.iam_layers.specs.Cell.{IsApplicableAt, IsVerdictOf}
 use Rattle.iam_layers.specs.Laws.{OneTriple, OneVerdictOf}
 use Rattle.iam_layers.proofs.CellLemmas.{cell_below}
 use Rattle.iam_world.specs.World.{WorldValue, world_cells}
@@ -15,7 +17,7 @@ use Rattle.iam_changes.specs.Twice.{IsApart, StandOnce, axis_texts}
 use Rattle.iam_changes.specs.declared.twice.Axis.TheVariants.{Principals, Actions, Resources}
 use Rattle.iam_changes.proofs.Ones.{one_texts}
 use Rattle.iam_changes.proofs.Places.{principal_there, resource_there}
-use Rattle.iam_changes.specs.Change.{Says}
+use Rattle.iam_changes.specs.Change.{AppliesTo, SaidValue, Says}
 use Rattle.iam_changes.proofs.Somes.{OnceIn, OnceSome, once_append, once_somes, in_front, in_back, some_in, some_from}
 
 -- ---- a text that stands once
@@ -35,14 +37,30 @@ same_cell world apart cell other texts (p, a, r, is, has) (q, b, s, there, also)
     let three = one_place (axis_texts Resources world) (apart Resources) r s texts.resource (resource_there world p a r texts has) (resource_there world q b s texts also) in
     is.number ∙ ap (λ x. (x * A + a) * R + r) one ∙ ap (λ x. (q * A + x) * R + r) two ∙ ap (λ x. (q * A + b) * R + x) three ∙ sym there.number
 
+-- the same policies apply wherever a principal asks for a resource
+one_applicable : (world : WorldValue) (p r : ℕ) (a b : ApplicableValue) → IsApplicableAt world p r a → IsApplicableAt world p r b → a ≡ b
+one_applicable world p r a b (principal, p_at, (resource, r_at, is)) (other, q_at, (another, s_at, same)) =
+    let one : principal ≡ other = cc in
+    let two : resource ≡ another = cc in
+    is ∙ ap (λ x. applicable_of world x resource) one ∙ ap (applicable_of world other) two ∙ sym same
+
+one_applied : OneTriple → (world : WorldValue) (cell : ℕ) (a b : ApplicableValue) → AppliesTo world cell a → AppliesTo world cell b → a ≡ b
+one_applied triples world cell a b (p, c, r, is, applies) (q, d, s, there, also) =
+    let (same, _, too) = triples world cell p c r q d s is there in
+    one_applicable world q s a b (subst (λ x. IsApplicableAt world x s a) same (subst (λ y. IsApplicableAt world p y a) too applies)) also
+
 -- of a request one thing is said
-pub one_said : OneVerdictOf → (world : WorldValue) → IsApart world → (texts : CellTexts) (x y : Option Verdict) → Says world texts x → Says world texts y → x ≡ y
-one_said verdicts world apart texts None None h k = refl
-one_said verdicts world apart texts None (Some verdict) h (cell, is, of) = absurd (h (cell, is))
-one_said verdicts world apart texts (Some verdict) None (cell, is, of) k = absurd (k (cell, is))
-one_said verdicts world apart texts (Some verdict) (Some other) (cell, is, of) (number, there, also) =
+pub one_said : OneVerdictOf → OneTriple → (world : WorldValue) → IsApart world → (texts : CellTexts) (x y : Option SaidValue) → Says world texts x → Says world texts y
+    → x ≡ y
+one_said verdicts triples world apart texts None None h k = refl
+one_said verdicts triples world apart texts None (Some said) h (cell, is, of, applies) = absurd (h (cell, is))
+one_said verdicts triples world apart texts (Some said) None (cell, is, of, applies) k = absurd (k (cell, is))
+one_said verdicts triples world apart texts (Some said) (Some other) (cell, is, of, applies) (number, there, also, too) =
     let same = same_cell world apart cell number texts is there in
-    ap Some (verdicts world number verdict other (subst (λ c. IsVerdictOf world c verdict) same of) also)
+    let verdict = verdicts world number said.verdict other.verdict (subst (λ c. IsVerdictOf world c said.verdict) same of) also in
+    let policies = one_applied triples world number said.policies other.policies (subst (λ c. AppliesTo world c said.policies) same applies) too in
+    ap (λ (v : Verdict). Some (record { verdict = v; policies = said.policies })) verdict
+    ∙ ap (λ (a : ApplicableValue). Some (record { verdict = other.verdict; policies = a })) policies
 
 -- ---- the request of a cell among the entries of all cells
 

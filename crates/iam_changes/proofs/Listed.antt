@@ -15,7 +15,7 @@ use Rattle.iam_row.specs.declared.quoted.Format.TheVariants.{Csv, Json}
 use Rattle.iam_row.specs.declared.tail.Tail.{Tail}
 use Rattle.iam_report.specs.Code.Place.{comma_of}
 use Rattle.iam_changes.specs.Change.{ChangeValue}
-use Rattle.iam_changes.specs.Code.Kept.{pair_of, part_row}
+use Rattle.iam_changes.specs.Code.Kept.{pair_in, part_row}
 use Rattle.iam_changes.specs.Code.Pieces.{lead_of, report_text, row_text, rows_text}
 use Rattle.iam_changes.specs.Report.{row_of}
 use Rattle.iam_changes.specs.declared.change.Kinds.{Kinds}
@@ -23,7 +23,7 @@ use Rattle.iam_changes.specs.declared.text.Pieces.{Pieces}
 
 -- the row of a change with its cell
 abbrev pub cell_row : Format → Bool → ℕ × ChangeValue → ℕ × Tail
-cell_row format brief row = part_row format brief (row.0, pair_of brief row.1.before row.1.after)
+cell_row format brief row = part_row format brief (row.0, pair_in brief row.1)
 
 abbrev pub change_in : ℕ × ChangeValue → ChangeValue
 change_in row = row.1

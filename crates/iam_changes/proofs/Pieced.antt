@@ -15,7 +15,7 @@ use Rattle.iam_row.specs.declared.tail.Tail.{Tail}
 use Rattle.iam_row.proofs.Rows.{one_texts, texts_there}
 use Rattle.iam_report.specs.Code.Place.{comma_of, position_in}
 use Rattle.iam_changes.specs.Change.{ChangeValue, Changes}
-use Rattle.iam_changes.specs.Code.Kept.{pair_of}
+use Rattle.iam_changes.specs.Code.Kept.{pair_in}
 use Rattle.iam_changes.specs.Code.Pieces.{ArePiecesOf, pair_tail, row_behind, row_text}
 use Rattle.iam_changes.specs.Report.{row_of}
 use Rattle.iam_changes.specs.declared.text.Pieces.{Pieces}
@@ -52,9 +52,9 @@ pieces_in world quoted cell texts same is =
 -- the row of a change of a cell
 change_behind : (world : WorldValue) (quoted : Quoted) (format : Format) (brief all : Bool) (comma : List ℕ) (cell : ℕ) (change : ChangeValue) → ArePiecesOf world quoted → quoted.format ≡ format
     → IsCellTexts world cell change.texts → Changes all change.before change.after change.change
-    → row_behind quoted comma cell (pair_tail format brief (pair_of brief change.before change.after)) ≡ change_row format brief comma (row_of change)
+    → row_behind quoted comma cell (pair_tail format brief (pair_in brief change)) ≡ change_row format brief comma (row_of change)
 change_behind world quoted format brief all comma cell change same made is changed =
-    let tail : Format → Tail = λ f. pair_tail f brief (pair_of brief change.before change.after) in
+    let tail : Format → Tail = λ f. pair_tail f brief (pair_in brief change) in
     let Q : Format → Type 0 = λ f. row_behind quoted comma cell (tail f) ≡ change_row f brief comma (row_of change) in
     subst Q made
     (ap (λ pieces. text_behind quoted.format comma pieces (tail quoted.format)) (pieces_in world quoted cell change.texts same is)
@@ -63,18 +63,18 @@ change_behind world quoted format brief all comma cell change same made is chang
 -- the row of a change among those of two worlds, of a cell of AFTER, and of one of BEFORE
 pub row_after : (world : WorldValue) (pieces : Pieces) (format : Format) (brief all : Bool) (cell : ℕ) (change : ChangeValue) → ArePiecesOf world pieces.after → pieces.after.format ≡ format
     → cell < pieces.cells → IsCellTexts world cell change.texts → Changes all change.before change.after change.change
-    → row_text pieces (cell, pair_tail format brief (pair_of brief change.before change.after)) ≡ change_row format brief (comma_of pieces.lead cell) (row_of change)
+    → row_text pieces (cell, pair_tail format brief (pair_in brief change)) ≡ change_row format brief (comma_of pieces.lead cell) (row_of change)
 row_after world pieces format brief all cell change same made below is changed =
-    let tail = pair_tail format brief (pair_of brief change.before change.after) in
+    let tail = pair_tail format brief (pair_in brief change) in
     let comma = comma_of pieces.lead cell in
     ap (λ b. if b then row_behind pieces.after comma cell tail else row_behind pieces.before comma (cell - pieces.cells) tail) (lt-ltb cell pieces.cells below)
     ∙ change_behind world pieces.after format brief all comma cell change same made is changed
 
 pub row_before : (world : WorldValue) (pieces : Pieces) (format : Format) (brief all : Bool) (cell own : ℕ) (change : ChangeValue) → ArePiecesOf world pieces.before → pieces.before.format ≡ format
     → cell ≡ pieces.cells + own → IsCellTexts world own change.texts → Changes all change.before change.after change.change
-    → row_text pieces (cell, pair_tail format brief (pair_of brief change.before change.after)) ≡ change_row format brief (comma_of pieces.lead cell) (row_of change)
+    → row_text pieces (cell, pair_tail format brief (pair_in brief change)) ≡ change_row format brief (comma_of pieces.lead cell) (row_of change)
 row_before world pieces format brief all cell own change same made number is changed =
-    let tail = pair_tail format brief (pair_of brief change.before change.after) in
+    let tail = pair_tail format brief (pair_in brief change) in
     let comma = comma_of pieces.lead cell in
     let past : pieces.cells ≤ cell = omega (arith, number) in
     let left : cell - pieces.cells ≡ own = omega (arith, number) in

@@ -11,8 +11,8 @@ use Rattle.iam_row.specs.declared.changes.Change.TheVariants.{Gained, Lost, Diff
 use Rattle.iam_row.specs.declared.quoted.Format.{Format}
 use Rattle.iam_row.specs.declared.quoted.Format.TheVariants.{Csv, Json}
 use Rattle.iam_row.proofs.ChangedLines.{pieces_row}
-use Rattle.iam_changes.specs.Change.{ChangeValue, Changes}
-use Rattle.iam_changes.specs.Code.Kept.{kept_said, pair_of}
+use Rattle.iam_changes.specs.Change.{ChangeValue, Changes, SaidValue, is_said_allowed, verdict_of}
+use Rattle.iam_changes.specs.Code.Kept.{kept_said, pair_in}
 use Rattle.iam_changes.specs.Code.Pieces.{pair_kind, pair_tail}
 use Rattle.iam_changes.specs.Report.{row_of}
 use Rattle.iam_changes.specs.declared.pair.Pair.{Pair}
@@ -43,45 +43,53 @@ differs_by true false e = absurd (let wrong : ⊥ = cc in wrong)
 differs_by false true e = absurd (let wrong : ⊥ = cc in wrong)
 
 -- the kind that a row shows is that of the change
-kind_is : (all : Bool) (before after : Option Verdict) (change : Change) → Changes all before after change → kind_by (is_allowed before) (is_allowed after) ≡ change
-kind_is all before after Gained (off, on) = ap (λ b. kind_by b (is_allowed after)) off ∙ ap (kind_by false) on
-kind_is all before after Lost (on, off) = ap (λ b. kind_by b (is_allowed after)) on ∙ ap (kind_by true) off
-kind_is all before after Differs (every, same, more) = differs_by (is_allowed before) (is_allowed after) same
+kind_is : (all : Bool) (before after : Option SaidValue) (change : Change) → Changes all before after change
+    → kind_by (is_said_allowed before) (is_said_allowed after) ≡ change
+kind_is all before after Gained (off, on) = ap (λ b. kind_by b (is_said_allowed after)) off ∙ ap (kind_by false) on
+kind_is all before after Lost (on, off) = ap (λ b. kind_by b (is_said_allowed after)) on ∙ ap (kind_by true) off
+kind_is all before after Differs (every, same, more) = differs_by (is_said_allowed before) (is_said_allowed after) same
 
-kept_kind : (brief all : Bool) (before after : Option Verdict) (change : Change) → Changes all before after change → pair_kind (pair_of brief before after) ≡ change
-kept_kind brief all before after change is =
+kept_kind : (brief all : Bool) (change : ChangeValue) → Changes all change.before change.after change.change
+    → pair_kind (pair_in brief change) ≡ change.change
+kept_kind brief all change is =
+    let before = verdict_of change.before in
+    let after = verdict_of change.after in
     ap (λ b. kind_by b (is_allowed (kept_said brief after))) (kept_allowed brief before) ∙ ap (kind_by (is_allowed before)) (kept_allowed brief after)
-    ∙ kind_is all before after change is
+    ∙ kind_is all change.before change.after change.change is
 
 kept_fields : (all : Bool) (change : ChangeValue) → Changes all change.before change.after change.change
-    → brief_fields (row_at change.texts (pair_of true change.before change.after)) ≡ brief_fields (row_of change)
+    → brief_fields (row_at change.texts (pair_in true change)) ≡ brief_fields (row_of change)
 kept_fields all change is =
     let texts = change.texts in
     let fields : Change → List ℕ → List ℕ → List (List ℕ) = λ kind before after.
     change_word kind ∷ texts.principal ∷ texts.action ∷ texts.resource ∷ before ∷ after ∷ [] in
-    let last = said_word (kept_said true change.after) in
-    ap (λ kind. fields kind (said_word (kept_said true change.before)) last) (kept_kind true all change.before change.after change.change is)
-    ∙ ap (λ before. fields change.change before last) (kept_word change.before) ∙ ap (fields change.change (said_word change.before)) (kept_word change.after)
+    let before = verdict_of change.before in
+    let after = verdict_of change.after in
+    let last = said_word (kept_said true after) in
+    ap (λ kind. fields kind (said_word (kept_said true before)) last) (kept_kind true all change is)
+    ∙ ap (λ word. fields change.change word last) (kept_word before) ∙ ap (fields change.change (said_word before)) (kept_word after)
 
 kept_object : (all : Bool) (change : ChangeValue) → Changes all change.before change.after change.change
-    → brief_object (row_at change.texts (pair_of true change.before change.after)) ≡ brief_object (row_of change)
+    → brief_object (row_at change.texts (pair_in true change)) ≡ brief_object (row_of change)
 kept_object all change is =
     let texts = change.texts in
     let made : Change → Data → Data → Data = λ kind before after.
     object (member (codes "action") (string texts.action) (member (codes "after") after (member (codes "before") before (member (codes "change") (string (change_word kind))
     (member (codes "principal") (string texts.principal) (member (codes "resource") (string texts.resource) no_members)))))) in
-    let last = said_data (kept_said true change.after) in
-    ap (λ kind. made kind (said_data (kept_said true change.before)) last) (kept_kind true all change.before change.after change.change is)
-    ∙ ap (λ before. made change.change before last) (kept_data change.before) ∙ ap (made change.change (said_data change.before)) (kept_data change.after)
+    let before = verdict_of change.before in
+    let after = verdict_of change.after in
+    let last = said_data (kept_said true after) in
+    ap (λ kind. made kind (said_data (kept_said true before)) last) (kept_kind true all change is)
+    ∙ ap (λ shown. made change.change shown last) (kept_data before) ∙ ap (made change.change (said_data before)) (kept_data after)
 
 kept_full : (all : Bool) (change : ChangeValue) → Changes all change.before change.after change.change
-    → row_at change.texts (pair_of false change.before change.after) ≡ row_of change
+    → row_at change.texts (pair_in false change) ≡ row_of change
 kept_full all change is =
-    let made : Change → ChangeRow = λ kind. record { texts = change.texts; change = Some kind; before = change.before; after = change.after } in
-    ap made (kept_kind false all change.before change.after change.change is)
+    let made : Change → ChangeRow = λ kind. record { texts = change.texts; change = Some kind; before = verdict_of change.before; after = verdict_of change.after } in
+    ap made (kept_kind false all change is)
 
 kept_row : (format : Format) (brief all : Bool) (comma : List ℕ) (change : ChangeValue) → Changes all change.before change.after change.change
-    → change_row format brief comma (row_at change.texts (pair_of brief change.before change.after)) ≡ change_row format brief comma (row_of change)
+    → change_row format brief comma (row_at change.texts (pair_in brief change)) ≡ change_row format brief comma (row_of change)
 kept_row Csv true all comma change is = ap csv_line (kept_fields all change is)
 kept_row Json true all comma change is = ap (λ d. comma ++ compact_text d) (kept_object all change is)
 kept_row Csv false all comma change is = ap (λ row. csv_line (full_fields row)) (kept_full all change is)
@@ -89,6 +97,6 @@ kept_row Json false all comma change is = ap (λ row. comma ++ compact_text (ful
 
 -- a row put together from the pieces of a change's request and what is kept of it is the change's
 pub rendered : (format : Format) (brief all : Bool) (comma : List ℕ) (change : ChangeValue) → Changes all change.before change.after change.change
-    → text_behind format comma (change_pieces format change.texts) (pair_tail format brief (pair_of brief change.before change.after)) ≡ change_row format brief comma (row_of change)
+    → text_behind format comma (change_pieces format change.texts) (pair_tail format brief (pair_in brief change)) ≡ change_row format brief comma (row_of change)
 rendered format brief all comma change is =
-    pieces_row format brief comma (row_at change.texts (pair_of brief change.before change.after)) ∙ kept_row format brief all comma change is
+    pieces_row format brief comma (row_at change.texts (pair_in brief change)) ∙ kept_row format brief all comma change is

@@ -4,13 +4,13 @@ use Rattle.iam_world.specs.World.{WorldValue}
 use Rattle.iam_row.specs.Changes.{ChangeRow, changes_text}
 use Rattle.iam_row.specs.declared.changes.Change.TheVariants.{Gained, Lost, Differs}
 use Rattle.iam_row.specs.declared.quoted.Format.{Format}
-use Rattle.iam_changes.specs.Change.{AreChanges, AskedValue, ChangeValue}
+use Rattle.iam_changes.specs.Change.{AreChanges, AskedValue, ChangeValue, verdict_of}
 use Rattle.iam_changes.specs.declared.change.Kinds.{Kinds}
 
 -- the row of a change
 abbrev pub row_of : ChangeValue → ChangeRow
 row_of change =
-    record { texts = change.texts; change = Some change.change; before = change.before; after = change.after }
+    record { texts = change.texts; change = Some change.change; before = verdict_of change.before; after = verdict_of change.after }
 
 -- which kinds of changes are among these
 pub record HasKinds (changes : List ChangeValue) (kinds : Kinds) : Type 0 where

@@ -1,10 +1,12 @@
 // Whether a request has changed, by what is said of it before and after, and which kinds of changes there are.
-ghost use Rattle.std.specs.Prelude.{◌≡◌, ◌↔◌, IfNone, IfSome, IsTrue, false, option_map};
-ghost use Rattle.iam_row.specs.declared.changes.Change.{Change};
-ghost use Rattle.iam_changes.specs.Change.{Changes, Differ};
-ghost use Rattle.iam_changes.specs.Code.Kept.{joined_kinds, with_kind, no_kinds};
+ghost use Rattle.std.specs.Prelude.{◌≡◌, ◌↔◌, Any, IsTrue, option_map};
+ghost use Rattle.iam_decision.specs.Applicable.{value_of};
+ghost use Rattle.iam_row.specs.Changes.{is_allowed};
+ghost use Rattle.iam_changes.specs.Change.{AreUnlike, IsReplaced};
+ghost use Rattle.iam_changes.specs.Code.Kept.{change_by, joined_kinds, with_kind, no_kinds};
 
-use iam_layers::Verdict;
+use iam_equal::say_same;
+use iam_layers::{Applicable, Place, Verdict};
 use iam_row::{Change, is_allowed};
 use iam_tiles::is_same;
 
@@ -57,26 +59,52 @@ impl Kinds {
     }
 }
 
-/// Whether something else is said before and after.
-fn differ(before: Option<&Verdict>, after: Option<&Verdict>) -> bool
-    ensures { IsTrue result ↔ Differ (option_map (λ verdict. verdict.now) before.entry) (option_map (λ verdict. verdict.now) after.entry) }
+/// Whether two worlds that both have a request say something else of it: another verdict, or the same one, at one
+/// of whose places a statement stands that says something else.
+pub fn differ(
+    verdict: &Verdict,
+    other: &Verdict,
+    before: &Applicable<'_>,
+    after: &Applicable<'_>,
+) -> bool
+    ensures { IsTrue result ↔ AreUnlike (record { verdict = verdict.now; policies = value_of before.now }) (record { verdict = other.now; policies = value_of after.now }) }
 {
-    match (before, after) {
-        (Some(verdict), Some(other)) => !is_same(verdict, other),
-        _ => false,
+    !is_same(verdict, other) || is_any_replaced(before, after, verdict.statements.as_slice())
+}
+
+/// Whether at one of the places a statement stands among the one policies that says something else than the one among the others.
+fn is_any_replaced(before: &Applicable<'_>, after: &Applicable<'_>, places: &[Place]) -> bool
+    ensures { IsTrue result ↔ Any (IsReplaced (value_of before.now) (value_of after.now)) places.now }
+{
+    for place in places {
+        if is_replaced(before, after, *place) {
+            return true;
+        }
+    }
+    false
+}
+
+/// Whether it is so at this place.
+fn is_replaced(before: &Applicable<'_>, after: &Applicable<'_>, place: Place) -> bool
+    ensures { IsTrue result ↔ IsReplaced (value_of before.now) (value_of after.now) place }
+{
+    match (before.statement_at(place), after.statement_at(place)) {
+        (Some(one), Some(other)) => !say_same(one, other),
+        (None, None) => false,
+        _ => true,
     }
 }
 
-/// The change of what is said of a request, where it is one; one that is not of access counts where all are asked for.
+/// The change of a request of which this is said before and after, where it is one; that they differ otherwise than in access counts where
+/// `differs` says so.
 #[inline(always)]
-pub fn change_of(all: bool, before: Option<&Verdict>, after: Option<&Verdict>) -> Option<Change>
-    ensures some { IfSome result (Changes all (option_map (λ verdict. verdict.now) before.entry) (option_map (λ verdict. verdict.now) after.entry)) }
-    ensures none { IfNone result ((change : Change) → ¬ Changes all (option_map (λ verdict. verdict.now) before.entry) (option_map (λ verdict. verdict.now) after.entry) change) }
+pub fn change_of(before: Option<&Verdict>, after: Option<&Verdict>, differs: bool) -> Option<Change>
+    ensures { result ≡ change_by (is_allowed (option_map (λ verdict. verdict.now) before.entry)) (is_allowed (option_map (λ verdict. verdict.now) after.entry)) differs }
 {
     match (is_allowed(before), is_allowed(after)) {
         (false, true) => Some(Change::Gained),
         (true, false) => Some(Change::Lost),
-        _ if all && differ(before, after) => Some(Change::Differs),
+        _ if differs => Some(Change::Differs),
         _ => None,
     }
 }

@@ -22,7 +22,7 @@ mod tail;
 mod text;
 mod twice;
 
-pub use change::{Kinds, change_of};
+pub use change::{Kinds, change_of, differ};
 pub use finder::Finder;
 pub use gathered::Gathered;
 pub use iam_layers::{Decision, Verdict, World};

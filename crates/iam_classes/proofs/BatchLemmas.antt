@@ -5,13 +5,13 @@ use Rattle.iam_decision.specs.Living.{LivingValue, living_value}
 use Rattle.iam_decision.specs.declared.frame.Frame.{Frame}
 use Rattle.iam_decision.specs.declared.living.Living.{Living}
 use Rattle.iam_decision.specs.declared.living.Matched.{Matched}
-use Rattle.iam_span.specs.Batch.{AreDecided}
-use Rattle.iam_span.specs.declared.lanes.Decided.{Decided}
+use Rattle.iam_classes.specs.Batch.{AreDecided}
+use Rattle.iam_classes.specs.declared.lanes.Decided.{Decided}
 use Rattle.iam_world.specs.World.{WorldValue}
 use Rattle.iam_index.specs.Elements.{AreActRows}
 use Rattle.iam_index.proofs.ListLemmas.{get_more}
 use Rattle.iam_columns.proofs.SlotLemmas.{all_weaker}
-use Rattle.iam_span.specs.Span.{IsBatchOf, count_of}
+use Rattle.iam_classes.specs.Span.{IsBatchOf, count_of}
 use Rattle.iam_classes.specs.Batches.{AreBatches, IsBatch}
 use Rattle.iam_classes.specs.Memo.{HasMore, MemoValue}
 use Rattle.iam_classes.specs.declared.batches.Batch.{Batch}

@@ -1,10 +1,10 @@
 -- What is decided on the requests of classes for up to 64 actions at once. LOGIC 1.1.
 use Rattle.std.specs.Prelude.{◌≡◌, ◌≤◌, ◌+◌, ◌*◌, ℕ, All, List, Some, length}
 use Rattle.std.specs.List.{slice_get}
-use Rattle.iam_span.specs.declared.lanes.Decided.{Decided}
+use Rattle.iam_classes.specs.declared.lanes.Decided.{Decided}
 use Rattle.iam_world.specs.World.{WorldValue}
 use Rattle.iam_columns.specs.Slots.{AllAre}
-use Rattle.iam_span.specs.Span.{IsBatchOf, count_of}
+use Rattle.iam_classes.specs.Span.{IsBatchOf, count_of}
 use Rattle.iam_classes.specs.declared.memo.Class.{Class}
 use Rattle.iam_classes.specs.declared.batches.Batches.{Batches}
 

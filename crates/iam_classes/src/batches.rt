@@ -1,9 +1,10 @@
 // Decisions on requests of classes, up to 64 actions at once.
 
+use crate::lanes::Decided;
 use crate::memo::Memo;
+use crate::span::TOGETHER;
 use iam_columns::{empty, keep, kept, slot_of, slots_or_none};
 use iam_layers::World;
-use iam_span::{Decided, TOGETHER};
 use std::alloc::Global;
 
 /// So many batches are kept at most.

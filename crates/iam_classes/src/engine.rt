@@ -1,6 +1,6 @@
 // The engine as its callers see it.
 ghost use Rattle.std.specs.Prelude.{◌≡◌, ◌<◌, ℕ, IfOk, IfSome, false, is_some, length, true};
-ghost use Rattle.iam_span.specs.Span.{IsSpan};
+ghost use Rattle.iam_classes.specs.Span.{IsSpan};
 ghost use Rattle.iam_classes.specs.Engine.{EngineValue};
 ghost use Rattle.iam_classes.specs.Batches.{AreBatches};
 ghost use Rattle.iam_classes.specs.Words.{AreWords};
@@ -8,12 +8,12 @@ ghost use Rattle.iam_classes.specs.Words.{AreWords};
 use crate::batches::Batches;
 use crate::memo::{Found, Memo};
 use crate::source::Source;
+use crate::span::{Known, Span, TOGETHER};
 use crate::words::Words;
 use iam_columns::Numbered;
 use iam_index::Index;
 use iam_layers::{Decision, Matched, Verdict, World};
 use iam_living::Survey;
-use iam_span::{Known, Span, TOGETHER};
 use iam_text::OutOfMemory;
 use std::alloc::Global;
 use std::marker::Model;
@@ -49,7 +49,7 @@ impl<'a> ClassEngine<'a> {
     ghost use Rattle.iam_world.specs.World.{world_cells};
     ghost use Rattle.iam_layers.specs.Cell.{IsDecisionAt, IsDecisionOf, IsVerdictAt, IsVerdictOf};
     ghost use Rattle.iam_columns.specs.Slots.{AllAre};
-    ghost use Rattle.iam_span.specs.Span.{AreKnownFrom};
+    ghost use Rattle.iam_classes.specs.Span.{AreKnownFrom};
     ghost use Rattle.iam_classes.specs.Engine.{HasMore, IsClassAt, IsNumberAt, IsSameEngine, OfClass};
 
     /// An engine of the world of an index, one of so many that share the bounds on what is kept.

@@ -3,14 +3,16 @@ ghost use Rattle.std.specs.Prelude.{◌≡◌, ◌<◌, ◌≤◌, ◌+◌, ◌*
 ghost use Rattle.iam_columns.specs.Slots.{AreEmpty};
 ghost use Rattle.iam_classes.specs.Memo.{ArePairs, FindsAlike, HasClass, HasMore, HasNumber, HasRuling, HasShared, HasVerdict, HasSigned, IsFreeFor, IsSameMemo, IsSign, IsRight, MemoValue};
 
+use crate::batch::decided;
 use crate::held::Held;
+use crate::lanes::Decided;
+use crate::span::TOGETHER;
 use iam_columns::{
     Numbered, WIDTH, empty, empty_slots, keep, keep_number, kept, number_in, slot_at, slot_of,
 };
 use iam_decision::acting_are_found;
 use iam_index::{Elements, Index, Sign, keep_signed, number_signed, put_acting, signature};
 use iam_layers::{Frame, Matched, Ruling, Shared, Verdict, World};
-use iam_span::{Decided, TOGETHER, decided};
 use iam_text::OutOfMemory;
 use std::alloc::Global;
 use std::marker::Model;

@@ -1,12 +1,13 @@
 -- Rows of changes, as a walk over cells gathers them.
-use Rattle.std.proofs.Common.{◌≡◌, ℕ, zero, suc, ◌+◌, ◌-◌, ◌*◌, ◌<◌, ◌≤◌, Bool, true, false, List, [], ◌∷◌, ◌++◌, Option, Some, None, length, map, MatchOption, refl, sym, ap, subst, ◌∙◌, inl, inr, append-nil, append_assoc, arith}
+use Rattle.std.proofs.Common.{◌≡◌, ◌↔◌, IsTrue, ℕ, zero, suc, ◌+◌, ◌-◌, ◌*◌, ◌<◌, ◌≤◌, Bool, true, false, List, [], ◌∷◌, ◌++◌, Option, Some, None, length, map, MatchOption, refl, sym, ap, subst, ◌∙◌, inl, inr, append-nil, append_assoc, arith}
 use Rattle.std.specs.Option.{is_some, option_to_list}
 use Rattle.std.proofs.lemmas.Grind.{flat_map-append}
 use Rattle.std.proofs.lemmas.List.{length-append, length-map, map-append}
 use Rattle.std.proofs.lemmas.Option.{slice_get_within}
-use Rattle.iam_decision.specs.declared.verdict.Verdict.{Verdict}
+use Rattle.iam_decision.specs.Applicable.{ApplicableValue}
 use Rattle.iam_matrix.specs.Engine.{EngineValue, IsNumberAt}
-use Rattle.iam_layers.specs.Cell.{IsCell, IsVerdictAt}
+use Rattle.iam_layers.specs.Applicable.{applicable_of}
+use Rattle.iam_layers.specs.Cell.{IsApplicableAt, IsCell, IsVerdictAt}
 use Rattle.iam_world.specs.World.{WorldValue, world_cells}
 use Rattle.iam_row.specs.Report.{CellTexts, HasTexts, IsCellTexts}
 use Rattle.iam_selection.specs.Selection.{IsSelected, Selects}
@@ -16,12 +17,15 @@ use Rattle.iam_changes.specs.Lists.{somes}
 use Rattle.iam_changes.specs.Requests.{Has}
 use Rattle.iam_changes.proofs.Counts.{cell_texts}
 use Rattle.iam_changes.proofs.Places.{has_found}
-use Rattle.iam_changes.specs.Change.{AskedValue, ChangeValue, IsRow, Says}
+use Rattle.iam_changes.specs.Change.{AreUnlike, AskedValue, ChangeValue, Changes, Differ, IsRow, SaidValue, Says, is_said_allowed, verdict_of}
+use Rattle.iam_row.specs.declared.changes.Change.{Change}
+use Rattle.iam_row.specs.declared.changes.Change.TheVariants.{Gained, Lost, Differs}
 use Rattle.iam_row.specs.declared.quoted.Format.{Format}
+use Rattle.iam_row.proofs.Rows.{texts_there}
 use Rattle.iam_row.specs.declared.tail.Tail.{Tail}
-use Rattle.iam_changes.specs.Code.Kept.{GatheredValue, no_kinds, part_row, with_kind}
+use Rattle.iam_changes.specs.Code.Kept.{GatheredValue, change_by, no_kinds, part_row, with_kind}
 use Rattle.iam_changes.specs.Code.Pieces.{PartValue}
-use Rattle.iam_compare.specs.Code.Walk.{AddsSaid, Gathers, IsLeftRow, IsPartOf, IsRowAt, kept_row, kinds_with, numbered, tail_row, with_row}
+use Rattle.iam_compare.specs.Code.Walk.{AddsRow, AddsSaid, Gathers, IsLeftRow, IsPartOf, IsRowAt, kept_row, kinds_with, numbered, tail_row, with_row}
 use Rattle.iam_changes.specs.declared.change.Kinds.{Kinds}
 use Rattle.iam_changes.specs.declared.pair.Pair.{Pair}
 
@@ -115,7 +119,7 @@ gathers_nothing asked requests brief cell old is end = record {
 
 -- a cell with a row
 gathers_row : (asked : AskedValue) (requests : RequestsValue) (brief : Bool) (cell : ℕ) (change : ChangeValue) (old new : GatheredValue) → IsRowAt asked requests cell (Some change)
-    → new ≡ with_row brief cell change.before change.after change.change old → Gathers asked requests brief cell (cell + 1) old new
+    → new ≡ with_row brief cell (verdict_of change.before) (verdict_of change.after) change.change old → Gathers asked requests brief cell (cell + 1) old new
 gathers_row asked requests brief cell change old new is e =
     subst (λ (g : GatheredValue). Gathers asked requests brief cell (cell + 1) old g) (sym e)
     (record {
@@ -155,21 +159,69 @@ few_rows asked requests brief from to old new gathers few =
     let rows = ap (λ (rs : List (ℕ × Pair)). length rs) gathers.rows_are ∙ length-append old.rows (map (kept_row brief) (numbered from entries)) in
     omega (arith, few, count, rows, length-map (numbered from entries) (kept_row brief), few_numbered from entries)
 
+-- ---- the change of a request
+
+-- so it is, where it is known whether what is said of it differs otherwise than in access
+change_told : (all : Bool) (before after : Option SaidValue) (differs was is : Bool) → IsTrue differs ↔ ((all ≡ true) × Differ before after)
+    → is_said_allowed before ≡ was → is_said_allowed after ≡ is
+    → MatchOption (change_by was is differs) ((change : Change) → ¬ Changes all before after change) (Changes all before after)
+change_told all before after differs false true tells off on = (off, on)
+change_told all before after differs true false tells on off = (on, off)
+change_told all before after true false false tells first last = ((tells.0 refl).0, first ∙ sym last, (tells.0 refl).1)
+change_told all before after true true true tells first last = ((tells.0 refl).0, first ∙ sym last, (tells.0 refl).1)
+change_told all before after false false false tells first last = none
+  where
+    none : (change : Change) → ¬ Changes all before after change
+    none Gained (off, on) = let wrong : ⊥ = cc in wrong
+    none Lost (on, off) = let wrong : ⊥ = cc in wrong
+    none Differs (every, same, differ) = let told = tells.1 (every, differ) in let wrong : ⊥ = cc in wrong
+change_told all before after false true true tells first last = none
+  where
+    none : (change : Change) → ¬ Changes all before after change
+    none Gained (off, on) = let wrong : ⊥ = cc in wrong
+    none Lost (on, off) = let wrong : ⊥ = cc in wrong
+    none Differs (every, same, differ) = let told = tells.1 (every, differ) in let wrong : ⊥ = cc in wrong
+
+pub adds_said : (all brief : Bool) (cell : ℕ) (before after : Option SaidValue) (differs : Bool) (old new : GatheredValue)
+    → IsTrue differs ↔ ((all ≡ true) × Differ before after)
+    → AddsRow brief cell (verdict_of before) (verdict_of after) (change_by (is_said_allowed before) (is_said_allowed after) differs) old new
+    → AddsSaid all brief cell before after old new
+adds_said all brief cell before after differs old new tells added =
+    let was = is_said_allowed before in
+    let is = is_said_allowed after in
+    (change_by was is differs, change_told all before after differs was is tells refl refl, added)
+
+-- what one world alone has does not differ otherwise
+pub lone_before : (all : Bool) (said : SaidValue) → IsTrue false ↔ ((all ≡ true) × Differ (Some said) None)
+lone_before all said = (λ on. let wrong : ⊥ = cc in absurd wrong, λ (every, (one, other, is, are, unlike)). let wrong : ⊥ = cc in absurd wrong)
+
+pub lone_after : (all : Bool) (says : SaidValue) → IsTrue false ↔ ((all ≡ true) × Differ None (Some says))
+lone_after all says = (λ on. let wrong : ⊥ = cc in absurd wrong, λ (every, (one, other, is, are, unlike)). let wrong : ⊥ = cc in absurd wrong)
+
+-- two things that are said differ where they are unlike
+pub both_differ : (all differs : Bool) (said says : SaidValue) → IsTrue differs ↔ ((all ≡ true) × AreUnlike said says)
+    → IsTrue differs ↔ ((all ≡ true) × Differ (Some said) (Some says))
+both_differ all differs said says tells = (
+  λ on. let (every, unlike) = tells.0 on in (every, (said, says, refl, refl, unlike)),
+  λ (every, (one, other, is, are, unlike)).
+      let first : one ≡ said = cc in
+      let last : other ≡ says = cc in
+      tells.1 (every, subst (λ x. AreUnlike x says) first (subst (AreUnlike one) last unlike)),
+)
+
 -- ---- the row of a request
 
 -- it is selected, and what is said of it was looked at
-pub gathers_said : (asked : AskedValue) (requests : RequestsValue) (brief : Bool) (cell : ℕ) (texts : CellTexts) (said says : Option Verdict) (old new : GatheredValue)
+pub gathers_said : (asked : AskedValue) (requests : RequestsValue) (brief : Bool) (cell : ℕ) (texts : CellTexts) (said says : Option SaidValue) (old new : GatheredValue)
     → ((row : Option ChangeValue) → IsRow asked requests.before requests.after texts row → IsRowAt asked requests cell row) → Selects asked.selection texts
     → Says requests.before texts said → Says requests.after texts says → AddsSaid asked.all brief cell said says old new → old.end ≤ cell
     → Gathers asked requests brief cell (cell + 1) old new
-gathers_said asked requests brief cell texts said says old new place selects before after added end = elim added [
-  | inl (change, changes, e) ↦
-      gathers_row asked requests brief cell (record { texts = texts; change = change; before = said; after = says }) old new
-      (place (Some (record { texts = texts; change = change; before = said; after = says })) (selects, refl, record { said = before; says = after; is = changes })) e
-  | inr (none, e) ↦
-      subst (λ (g : GatheredValue). Gathers asked requests brief cell (cell + 1) old g) (sym e)
-      (gathers_nothing asked requests brief cell old (place None (inr (said, says, before, after, none))) end)
-]
+gathers_said asked requests brief cell texts said says old new place selects before after (Some change, changes, e) end =
+    gathers_row asked requests brief cell (record { texts = texts; change = change; before = said; after = says }) old new
+    (place (Some (record { texts = texts; change = change; before = said; after = says })) (selects, refl, record { said = before; says = after; is = changes })) e
+gathers_said asked requests brief cell texts said says old new place selects before after (None, none, e) end =
+    subst (λ (g : GatheredValue). Gathers asked requests brief cell (cell + 1) old g) (sym e)
+    (gathers_nothing asked requests brief cell old (place None (inr (said, says, before, after, none))) end)
 
 -- the row of a cell of AFTER, and of one of BEFORE
 pub place_after : (asked : AskedValue) (requests : RequestsValue) (cell : ℕ) (texts : CellTexts) → IsCellTexts requests.after cell texts → (row : Option ChangeValue)
@@ -247,12 +299,25 @@ part_gathered asked requests format brief from to old new part none gathers (row
 
 -- ---- what a world says of a request
 
-pub says_at : (world : WorldValue) (cell p a r : ℕ) (texts : CellTexts) (verdict : Verdict) → IsCell world cell p a r → IsCellTexts world cell texts → IsVerdictAt world p a r verdict
-    → Says world texts (Some verdict)
-says_at world cell p a r texts verdict is of told = (cell, of, (p, a, r, is, told))
+-- the policies that apply where a principal asks for a resource
+pub applied : (world : WorldValue) (p a r : ℕ) (texts : CellTexts) → HasTexts world p a r texts → (policies : ApplicableValue) × IsApplicableAt world p r policies
+applied world p a r texts has =
+    let (principal, p_at, p_is) = has.principal in
+    let (resource, r_at, r_is) = has.resource in
+    (applicable_of world principal resource, (principal, p_at, (resource, r_at, refl)))
 
-pub says_found : (world : WorldValue) (p a r : ℕ) (texts : CellTexts) (verdict : Verdict) → HasTexts world p a r texts → IsVerdictAt world p a r verdict → Says world texts (Some verdict)
-says_found world p a r texts verdict has told =
+pub applied_at : (world : WorldValue) (cell p a r : ℕ) → IsCell world cell p a r → (policies : ApplicableValue) × IsApplicableAt world p r policies
+applied_at world cell p a r is =
+    let (texts, has) = texts_there world cell p a r is in
+    applied world p a r texts has
+
+pub says_at : (world : WorldValue) (cell p a r : ℕ) (texts : CellTexts) (said : SaidValue) → IsCell world cell p a r → IsCellTexts world cell texts
+    → IsVerdictAt world p a r said.verdict → IsApplicableAt world p r said.policies → Says world texts (Some said)
+says_at world cell p a r texts said is of told applies = (cell, of, (p, a, r, is, told), (p, a, r, is, applies))
+
+pub says_found : (world : WorldValue) (p a r : ℕ) (texts : CellTexts) (said : SaidValue) → HasTexts world p a r texts → IsVerdictAt world p a r said.verdict
+    → IsApplicableAt world p r said.policies → Says world texts (Some said)
+says_found world p a r texts said has told applies =
     let (principal, p_at, p_is) = has.principal in
     let (resource, r_at, r_is) = has.resource in
     let is : IsCell world ((p * length world.actions + a) * length world.resources + r) p a r = record {
@@ -261,7 +326,7 @@ says_found world p a r texts verdict has told =
       resource = slice_get_within world.resources r resource r_at;
       number = refl;
     } in
-    ((p * length world.actions + a) * length world.resources + r, (p, a, r, is, has), (p, a, r, is, told))
+    ((p * length world.actions + a) * length world.resources + r, (p, a, r, is, has), (p, a, r, is, told), (p, a, r, is, applies))
 
 -- the numbers of what was found are those of a request
 pub record AreWithin (world : WorldValue) (p a r : ℕ) : Type 0 where

@@ -1,12 +1,16 @@
 // The rows of changes among the requests of each tile.
-ghost use Rattle.std.specs.Prelude.{◌≡◌, ◌+◌, ◌<◌, ◌≤◌, ◌^◌, ℕ, IfOk, IsTrue, None, OnOk, Some, length, option_map, slice_index};
+ghost use Rattle.std.specs.Prelude.{◌≡◌, ◌↔◌, true, ◌+◌, ◌<◌, ◌≤◌, ◌^◌, ℕ, IfOk, IsTrue, None, OnOk, Some, length, option_map, slice_index};
 ghost use Rattle.iam_decision.specs.declared.verdict.Verdict.{Verdict};
 ghost use Rattle.iam_world.specs.World.{world_cells};
-ghost use Rattle.iam_layers.specs.Cell.{IsCell};
+ghost use Rattle.iam_decision.specs.Applicable.{ApplicableValue};
+ghost use Rattle.iam_layers.specs.Cell.{IsApplicableAt, IsCell};
+ghost use Rattle.iam_row.specs.Changes.{is_allowed};
 ghost use Rattle.iam_row.specs.Report.{CellTexts, IsCellTexts};
-ghost use Rattle.iam_compare.specs.Code.Walk.{AddsSaid, AreEnginesOf, Gathers, IsCrew, IsLeftRow, IsPartOf, all_cells, asked_of, with_row, IsTileOf, reached};
+ghost use Rattle.iam_changes.specs.Change.{AreUnlike};
+ghost use Rattle.iam_changes.specs.Code.Kept.{change_by};
+ghost use Rattle.iam_compare.specs.Code.Walk.{AddsRow, AreEnginesOf, Gathers, IsCrew, IsLeftRow, IsPartOf, all_cells, asked_of, with_row, IsTileOf, reached};
 
-use iam_changes::{Change, Decisions, Gathered, Part, Requests, Verdicts, change_of};
+use iam_changes::{Change, Decisions, Gathered, Part, Requests, Verdicts, change_of, differ};
 use iam_crew::{Bound, Crew};
 use iam_layers::{Decision, Verdict, one_triple};
 use iam_matrix::{Asks, ClassEngine, Cut, Survey, past_row};
@@ -226,13 +230,58 @@ fn visit_after(
     let number = engines[1].find(alloc, at.principal, at.action, at.resource)?;
     let Some((p, a, r)) = crew.requests.to_before().find(at) else {
         let says = Some(engines[1].verdict(number));
-        return add_said(alloc, crew.asked, at.cell, number, None, says, rows);
+        return add_said(
+            alloc,
+            crew.asked.brief,
+            at.cell,
+            number,
+            None,
+            says,
+            false,
+            rows,
+        );
     };
     let other = engines[0].find(alloc, p, a, r)?;
     let hint = number ^ other.rotate_left(5);
-    let said = Some(engines[0].verdict(other));
-    let says = Some(engines[1].verdict(number));
-    add_said(alloc, crew.asked, at.cell, hint, said, says, rows)
+    let said = engines[0].verdict(other);
+    let says = engines[1].verdict(number);
+    let differs = differ_at(crew, at, p, r, said, says);
+    add_said(
+        alloc,
+        crew.asked.brief,
+        at.cell,
+        hint,
+        Some(said),
+        Some(says),
+        differs,
+        rows,
+    )
+}
+
+/// Whether all changes are asked for, and something else is said of the request of a cell of AFTER than of that of principal p for resource
+/// r of BEFORE.
+fn differ_at(
+    crew: &Workers<'_>,
+    at: Position,
+    p: u64,
+    r: u64,
+    said: &Verdict,
+    says: &Verdict,
+) -> bool
+    requires cell { IsCell crew.now.requests.now.after at.cell at.principal at.action at.resource }
+    requires principal { p < length crew.now.requests.now.before.principals }
+    requires resource { r < length crew.now.requests.now.before.resources }
+    ensures { (one other : ApplicableValue) → IsApplicableAt crew.now.requests.now.before p r one
+        → IsApplicableAt crew.now.requests.now.after at.principal at.resource other
+        → IsTrue result ↔ ((crew.now.asked.all ≡ true)
+        × AreUnlike (record { verdict = said.now; policies = one }) (record { verdict = says.now; policies = other })) }
+{
+    if !crew.asked.all {
+        return false;
+    }
+    let before = crew.requests.before().applicable(p, r);
+    let after = crew.requests.after().applicable(at.principal, at.resource);
+    differ(said, says, &before, &after)
 }
 
 /// Adds the row of a cell of BEFORE whose request AFTER does not have, where it is selected and has changed.
@@ -263,27 +312,40 @@ fn visit_before(
     let cell = crew.requests.after().cells() + at.cell;
     let number = before.find(alloc, at.principal, at.action, at.resource)?;
     let said = Some(before.verdict(number));
-    add_said(alloc, crew.asked, cell, number, said, None, rows)
+    add_said(
+        alloc,
+        crew.asked.brief,
+        cell,
+        number,
+        said,
+        None,
+        false,
+        rows,
+    )
 }
 
-/// Adds the row of a cell, where what is said of its request before and after is a change.
+/// Adds the row of a cell, where what is said of its request before and after is a change. That both worlds say something else of it
+/// counts where `differs` says so.
 #[inline(always)]
 fn add_said(
     alloc: Global,
-    asked: Asked,
+    brief: bool,
     cell: u64,
     hint: usize,
     before: Option<&Verdict>,
     after: Option<&Verdict>,
+    differs: bool,
     rows: &mut Gathered,
 ) -> Result<(), OutOfMemory>
     requires rows { rows.old.end ≤ cell }
     requires few { length rows.old.rows ≤ cell }
     requires cell { cell < 2 ^ 32 }
-    ensures { OnOk result (AddsSaid asked.all asked.brief cell (option_map (λ verdict. verdict.now) before.entry) (option_map (λ verdict. verdict.now) after.entry) rows.old rows.new) }
+    ensures { OnOk result (AddsRow brief cell (option_map (λ verdict. verdict.now) before.entry) (option_map (λ verdict. verdict.now) after.entry)
+        (change_by (is_allowed (option_map (λ verdict. verdict.now) before.entry)) (is_allowed (option_map (λ verdict. verdict.now) after.entry)) differs)
+        rows.old rows.new) }
 {
-    match change_of(asked.all, before, after) {
-        Some(change) => add(alloc, asked.brief, cell, change, hint, before, after, rows),
+    match change_of(before, after, differs) {
+        Some(change) => add(alloc, brief, cell, change, hint, before, after, rows),
         None => Ok(()),
     }
 }

@@ -1,7 +1,7 @@
 -- The statements of the applicable policies, each with its place, and which of them match a request.
 -- LOGIC 10.2 and 11.1.
-use Rattle.std.specs.Prelude.{◌≡◌, ◌⊎◌, ℕ, List, [], ◌∷◌, ◌++◌}
-use Rattle.std.specs.List.{enumerate_from, flat_map}
+use Rattle.std.specs.Prelude.{◌≡◌, ◌⊎◌, ℕ, List, [], ◌∷◌, ◌++◌, Option, get_or, option_and_then}
+use Rattle.std.specs.List.{enumerate_from, flat_map, slice_get}
 use Rattle.std.specs.Option.{option_to_list}
 use Rattle.iam_policy.specs.Reading.{PolicyValue, StatementValue}
 use Rattle.iam_match.specs.Statement.{RequestValue, StatementMatches}
@@ -37,6 +37,20 @@ placed a =
     ++ (in_level Resource 0 (option_to_list a.resource)
     ++ (in_level Identity 0 a.identity
     ++ (in_level Boundary 0 (option_to_list a.boundary) ++ in_level Session 0 a.session))))
+
+-- the policies of a level of a layer, in order; a layer without levels has one
+abbrev pub policies_at : ApplicableValue → Layer → ℕ → List PolicyValue
+policies_at a Org level = get_or a.org level []
+policies_at a Control level = get_or a.control level []
+policies_at a Resource level = option_to_list a.resource
+policies_at a Identity level = a.identity
+policies_at a Boundary level = option_to_list a.boundary
+policies_at a Session level = a.session
+
+-- the statement that stands at a place, if one does
+abbrev pub statement_at : ApplicableValue → Place → Option StatementValue
+statement_at a place =
+    option_and_then (λ policy. slice_get policy.statements place.statement) (slice_get (policies_at a place.layer place.level) place.policy)
 
 -- those of a list that have the property, in the order of the list
 abbrev pub Selects : {X : Type 0} → (X → Type 0) → List X → List X → Type 0

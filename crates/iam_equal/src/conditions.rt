@@ -1,12 +1,13 @@
 // Whether two conditions are the same, entry by entry.
-ghost use Rattle.std.specs.Prelude.{◌≡◌, IsTrue};
+ghost use Rattle.std.specs.Prelude.{◌≡◌, ◌↔◌, IsTrue};
 
+use crate::texts::is_same_text;
 use iam_condition::{Base, Entry, Operand, Operator, Quantifier};
 use iam_value::Range;
 
-/// `true` only where both lists have the same entries in the same order.
+/// Whether both lists have the same entries in the same order.
 pub fn are_same_entries(ones: &[Entry], others: &[Entry]) -> bool
-    ensures { IsTrue result → ones.now ≡ others.now }
+    ensures { IsTrue result ↔ ones.now ≡ others.now }
 {
     if ones.len() != others.len() {
         return false;
@@ -20,7 +21,7 @@ pub fn are_same_entries(ones: &[Entry], others: &[Entry]) -> bool
 }
 
 fn is_same_entry(one: &Entry, other: &Entry) -> bool
-    ensures { IsTrue result → one.now ≡ other.now }
+    ensures { IsTrue result ↔ one.now ≡ other.now }
 {
     if !is_same_operator(one.operator(), other.operator()) || one.key() != other.key() {
         return false;
@@ -28,9 +29,9 @@ fn is_same_entry(one: &Entry, other: &Entry) -> bool
     are_same_values(one.values(), other.values())
 }
 
-/// `true` only where both are the same operator.
+/// Whether both are the same operator.
 pub fn is_same_operator(one: Operator, other: Operator) -> bool
-    ensures { IsTrue result → one ≡ other }
+    ensures { IsTrue result ↔ one ≡ other }
 {
     if one.is_negated != other.is_negated || one.if_exists != other.if_exists {
         return false;
@@ -39,20 +40,20 @@ pub fn is_same_operator(one: Operator, other: Operator) -> bool
 }
 
 fn is_same_quantifier(one: Option<Quantifier>, other: Option<Quantifier>) -> bool
-    ensures { IsTrue result → one ≡ other }
+    ensures { IsTrue result ↔ one ≡ other }
 {
     one == other
 }
 
 fn is_same_base(one: Base, other: Base) -> bool
-    ensures { IsTrue result → one ≡ other }
+    ensures { IsTrue result ↔ one ≡ other }
 {
     one == other
 }
 
-/// `true` only where both lists have the same values in the same order.
+/// Whether both lists have the same values in the same order.
 fn are_same_values(ones: &[Operand], others: &[Operand]) -> bool
-    ensures { IsTrue result → ones.now ≡ others.now }
+    ensures { IsTrue result ↔ ones.now ≡ others.now }
 {
     if ones.len() != others.len() {
         return false;
@@ -65,12 +66,12 @@ fn are_same_values(ones: &[Operand], others: &[Operand]) -> bool
     true
 }
 
-/// `true` only where both values are the same.
+/// Whether both values are the same.
 pub fn is_same_value(one: &Operand, other: &Operand) -> bool
-    ensures { IsTrue result → one.now ≡ other.now }
+    ensures { IsTrue result ↔ one.now ≡ other.now }
 {
     match (one, other) {
-        (Operand::Text(one), Operand::Text(other)) => one.is_same(other),
+        (Operand::Text(one), Operand::Text(other)) => is_same_text(one, other),
         (Operand::Number(one), Operand::Number(other)) => one == other,
         (Operand::Instant(one), Operand::Instant(other)) => one.get() == other.get(),
         (Operand::Truth(one), Operand::Truth(other)) => one == other,
@@ -80,9 +81,9 @@ pub fn is_same_value(one: &Operand, other: &Operand) -> bool
     }
 }
 
-/// `true` only where both ranges have the same address, and as many of its bits count.
+/// Whether both ranges have the same address, and as many of its bits count.
 fn is_same_range(one: &Range, other: &Range) -> bool
-    ensures { IsTrue result → one.now ≡ other.now }
+    ensures { IsTrue result ↔ one.now ≡ other.now }
 {
     one.width() == other.width() && one.number() == other.number() && one.prefix() == other.prefix()
 }

@@ -6,8 +6,7 @@ use crate::prints::print;
 use crate::statement::are_equal;
 use iam_decision::Standing;
 
-/// `true` only where both lists have the same statements at the same places, in the same order; `false` says nothing, as that of
-/// [`are_equal`](crate::are_equal).
+/// `true` only where both lists have the same statements at the same places, in the same order; `false` says nothing.
 pub fn are_all_equal(ones: &[Standing<'_>], others: &[Standing<'_>]) -> bool
     ensures { IsTrue result → map placed_value ones.now ≡ map placed_value others.now }
 {

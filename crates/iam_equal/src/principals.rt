@@ -1,12 +1,12 @@
 // Whether two principal elements are the same.
-ghost use Rattle.std.specs.Prelude.{◌≡◌, IsTrue};
+ghost use Rattle.std.specs.Prelude.{◌≡◌, ◌↔◌, IsTrue};
 ghost use Rattle.std.specs.Option.{option_copied};
 
 use iam_element::{PrincipalName, Principals};
 
-/// `true` only where both elements are the same, or neither stands there.
+/// Whether both elements are the same, or neither stands there.
 pub fn are_same_principals(one: Option<&Principals>, other: Option<&Principals>) -> bool
-    ensures { IsTrue result → option_copied one.entry ≡ option_copied other.entry }
+    ensures { IsTrue result ↔ option_copied one.entry ≡ option_copied other.entry }
 {
     match (one, other) {
         (None, None) => true,
@@ -16,14 +16,14 @@ pub fn are_same_principals(one: Option<&Principals>, other: Option<&Principals>)
 }
 
 fn is_same_element(one: &Principals, other: &Principals) -> bool
-    ensures { IsTrue result → one.now ≡ other.now }
+    ensures { IsTrue result ↔ one.now ≡ other.now }
 {
     one.is_negated() == other.is_negated() && are_same_names(one.names(), other.names())
 }
 
 /// Whether both lists have the same names in the same order.
 fn are_same_names(ones: &[PrincipalName], others: &[PrincipalName]) -> bool
-    ensures { IsTrue result → ones.now ≡ others.now }
+    ensures { IsTrue result ↔ ones.now ≡ others.now }
 {
     if ones.len() != others.len() {
         return false;
@@ -37,7 +37,7 @@ fn are_same_names(ones: &[PrincipalName], others: &[PrincipalName]) -> bool
 }
 
 fn is_same_name(one: &PrincipalName, other: &PrincipalName) -> bool
-    ensures { IsTrue result → one.now ≡ other.now }
+    ensures { IsTrue result ↔ one.now ≡ other.now }
 {
     one.kind() == other.kind() && one.text() == other.text()
 }

@@ -1,5 +1,5 @@
 -- Rows of changes as they are kept: the cells without a row before each, and what is said before and after.
-use Rattle.std.specs.Prelude.{ℕ, zero, suc, ◌+◌, List, [], ◌∷◌, Option, None, Bool, true, false, get_or, option_map, ◌||◌}
+use Rattle.std.specs.Prelude.{ℕ, zero, suc, ◌+◌, List, [], ◌∷◌, Option, None, Some, Bool, true, false, get_or, if◌then◌else◌, option_map, ◌||◌}
 use Rattle.iam_decision.specs.declared.verdict.Verdict.{Verdict}
 use Rattle.iam_row.specs.Piece.{bare}
 use Rattle.iam_row.specs.declared.changes.Change.{Change}
@@ -7,6 +7,7 @@ use Rattle.iam_row.specs.declared.changes.Change.TheVariants.{Gained, Lost, Diff
 use Rattle.iam_row.specs.declared.quoted.Format.{Format}
 use Rattle.iam_row.specs.declared.tail.Tail.{Tail}
 use Rattle.iam_tiles.specs.Code.Numbered.{no_tail}
+use Rattle.iam_changes.specs.Change.{ChangeValue, verdict_of}
 use Rattle.iam_changes.specs.Code.Pieces.{PartValue, pair_tail}
 use Rattle.iam_changes.specs.declared.change.Kinds.{Kinds}
 use Rattle.iam_changes.specs.declared.pair.Pair.{Pair}
@@ -22,6 +23,16 @@ kept_said false said = said
 
 abbrev pub pair_of : Bool → Option Verdict → Option Verdict → Pair
 pair_of brief before after = record { before = kept_said brief before; after = kept_said brief after }
+
+abbrev pub pair_in : Bool → ChangeValue → Pair
+pair_in brief change = pair_of brief (verdict_of change.before) (verdict_of change.after)
+
+-- the change of a request, by whether it is allowed before and after, and whether it differs otherwise
+abbrev pub change_by : Bool → Bool → Bool → Option Change
+change_by false true differs = Some Gained
+change_by true false differs = Some Lost
+change_by false false differs = if differs then Some Differs else None
+change_by true true differs = if differs then Some Differs else None
 
 -- ---- kinds of changes
 

@@ -1,5 +1,5 @@
 -- What the workers make of a tile, and of tiles that follow one another. The cells of BEFORE are counted behind those of AFTER.
-use Rattle.std.specs.Prelude.{◌≡◌, ◌⊎◌, ℕ, ◌+◌, ◌<◌, ◌≤◌, List, [], ◌∷◌, ◌++◌, Option, Some, None, Bool, length, map, sum}
+use Rattle.std.specs.Prelude.{◌≡◌, ◌⊎◌, ℕ, ◌+◌, ◌<◌, ◌≤◌, List, [], ◌∷◌, ◌++◌, MatchOption, Option, Some, None, Bool, length, map, sum}
 use Rattle.iam_decision.specs.declared.verdict.Verdict.{Verdict}
 use Rattle.iam_matrix.specs.Engine.{EngineValue}
 use Rattle.iam_world.specs.World.{WorldValue, world_cells}
@@ -12,8 +12,8 @@ use Rattle.iam_matrix.specs.Code.Tiles.{Chain}
 use Rattle.iam_changes.specs.Lists.{somes}
 use Rattle.iam_changes.specs.Requests.{Has}
 use Rattle.iam_changes.specs.Code.Found.{RequestsValue, reach}
-use Rattle.iam_changes.specs.Change.{AskedValue, ChangeValue, Changes, IsRow}
-use Rattle.iam_changes.specs.Code.Kept.{GatheredValue, no_kinds, pair_of, part_row, with_kind}
+use Rattle.iam_changes.specs.Change.{AskedValue, ChangeValue, Changes, IsRow, SaidValue, verdict_of}
+use Rattle.iam_changes.specs.Code.Kept.{GatheredValue, no_kinds, pair_in, pair_of, part_row, with_kind}
 use Rattle.iam_changes.specs.Code.Pieces.{PartValue}
 use Rattle.iam_changes.specs.declared.change.Kinds.{Kinds}
 use Rattle.iam_changes.specs.declared.pair.Pair.{Pair}
@@ -75,7 +75,7 @@ numbered from (Some change ∷ rows) = (from, change) ∷ numbered (from + 1) ro
 
 -- a row as it is gathered, and as it stands in a part
 abbrev pub kept_row : Bool → ℕ × ChangeValue → ℕ × Pair
-kept_row brief row = (row.0, pair_of brief row.1.before row.1.after)
+kept_row brief row = (row.0, pair_in brief row.1)
 
 abbrev pub tail_row : Format → Bool → ℕ × ChangeValue → ℕ × Tail
 tail_row format brief row = part_row format brief (kept_row brief row)
@@ -92,11 +92,16 @@ abbrev pub with_row : Bool → ℕ → Option Verdict → Option Verdict → Cha
 with_row brief cell before after change gathered =
     record { rows = gathered.rows ++ (cell, pair_of brief before after) ∷ []; end = cell + 1; kinds = with_kind gathered.kinds change }
 
+-- the row of a change was put, where there is one
+abbrev pub AddsRow : Bool → ℕ → Option Verdict → Option Verdict → Option Change → GatheredValue → GatheredValue → Type 0
+AddsRow brief cell before after None old new = new ≡ old
+AddsRow brief cell before after (Some change) old new = new ≡ with_row brief cell before after change old
+
 -- the row of what is said of a request was put, where it is a change; or none was
-abbrev pub AddsSaid : Bool → Bool → ℕ → Option Verdict → Option Verdict → GatheredValue → GatheredValue → Type 0
+abbrev pub AddsSaid : Bool → Bool → ℕ → Option SaidValue → Option SaidValue → GatheredValue → GatheredValue → Type 0
 AddsSaid all brief cell before after old new =
-    ((change : Change) × Changes all before after change × (new ≡ with_row brief cell before after change old))
-    ⊎ (((change : Change) → ¬ Changes all before after change) × (new ≡ old))
+    (change : Option Change) × MatchOption change ((change : Change) → ¬ Changes all before after change) (Changes all before after)
+    × AddsRow brief cell (verdict_of before) (verdict_of after) change old new
 
 -- the rows of cells from one up to another were put behind others
 pub record Gathers (asked : AskedValue) (requests : RequestsValue) (brief : Bool) (from to : ℕ) (old new : GatheredValue) : Type 0 where

@@ -6,9 +6,10 @@ use Rattle.iam_world.specs.World.{WorldValue, world_cells}
 use Rattle.iam_row.specs.Report.{CellTexts, IsCellTexts}
 use Rattle.iam_selection.specs.Code.Listing.{PickerValue}
 use Rattle.iam_selection.specs.Selection.{IsSelected}
+use Rattle.iam_changes.specs.Change.{SaidValue}
 use Rattle.iam_changes.specs.Requests.{Has}
 use Rattle.iam_compare.specs.Code.Walk.{AddsSaid, asked_of}
-use Rattle.iam_compare.proofs.Walks.{gathers_nothing, gathers_said, has_of_found, none_of_found, number_within, off_before, place_before, says_at, within_cell}
+use Rattle.iam_compare.proofs.Walks.{adds_said, applied_at, gathers_nothing, gathers_said, has_of_found, lone_before, none_of_found, number_within, off_before, place_before, says_at, within_cell}
 use Rattle.iam_compare.proofs.walk.visit_before.Goals as goal
 
 pub asks-requires : goal.asks-requires
@@ -85,9 +86,12 @@ returns-clause-rows c =
     let told = subst V (c.in_ok-number.ensures.same.0 ∙ c.requires.tools ∙ c.requires.crew.survey_before)
     (c.verdict.ensures at.principal at.action at.resource c.in_ok-number.ensures.number) in
     let cell = ap (λ n. n + at.cell) (c.cells.ensures.value ∙ ap (λ (w : WorldValue). world_cells w) c.after.ensures) in
+    let (policies, applies) = applied_at requests.before at.cell at.principal at.action at.resource c.requires.cell in
+    let said : SaidValue = record { verdict = verdict; policies = policies } in
     on_ok_weaker c.add_said.result
-    (λ added. gathers_said asked requests crew.asked.brief (world_cells requests.after + at.cell) texts (Some verdict) None old new
+    (λ added. gathers_said asked requests crew.asked.brief (world_cells requests.after + at.cell) texts (Some said) None old new
     (place_before asked requests at.cell texts of absent) selects
-    (says_at requests.before at.cell at.principal at.action at.resource texts verdict c.requires.cell of told) absent
-    (subst (λ k. AddsSaid asked.all crew.asked.brief k (Some verdict) None old new) cell added) c.requires.rows)
+    (says_at requests.before at.cell at.principal at.action at.resource texts said c.requires.cell of told applies) absent
+    (subst (λ k. AddsSaid asked.all crew.asked.brief k (Some said) None old new) cell
+    (adds_said asked.all crew.asked.brief _ (Some said) None false old new (lone_before asked.all said) added)) c.requires.rows)
     c.add_said.ensures

@@ -1,8 +1,8 @@
 use Rattle.std.proofs.Common.{◌≡◌, ap, sym, ◌∙◌, subst}
 use Rattle.iam_columns.proofs.SlotLemmas.{all_empty}
 use Rattle.iam_world.specs.World.{WorldValue}
-use Rattle.iam_span.specs.Span.{IsSpan}
-use Rattle.iam_span.specs.declared.span.Span.{Span}
+use Rattle.iam_classes.specs.Span.{IsSpan}
+use Rattle.iam_classes.specs.declared.span.Span.{Span}
 use Rattle.iam_classes.specs.Batches.{IsBatch}
 use Rattle.iam_classes.specs.Engine.{SourceValue}
 use Rattle.iam_classes.specs.declared.batches.Batch.{Batch}

@@ -1,7 +1,7 @@
 use Rattle.std.proofs.Common.{◌≡◌, ◌<◌, List, length, sym, subst}
 use Rattle.std.proofs.lemmas.Result.{IfOk-weaker}
 use Rattle.iam_world.specs.World.{WorldValue}
-use Rattle.iam_span.specs.Span.{IsSpan}
+use Rattle.iam_classes.specs.Span.{IsSpan}
 use Rattle.iam_classes.specs.Batches.{AreBatches}
 use Rattle.iam_classes.specs.Engine.{EngineValue}
 use Rattle.iam_classes.specs.Memo.{MemoValue}

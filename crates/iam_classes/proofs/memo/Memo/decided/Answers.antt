@@ -4,7 +4,7 @@ use Rattle.std.proofs.lemmas.Option.{slice_get-get_or}
 use Rattle.std.specs.List.{slice_get}
 use Rattle.iam_decision.specs.Living.{LivingValue, SharedValue, living_value}
 use Rattle.iam_decision.specs.declared.living.Matched.{Matched}
-use Rattle.iam_span.specs.Span.{count_of}
+use Rattle.iam_classes.specs.Span.{count_of}
 use Rattle.iam_classes.specs.Batches.{IsBatch, RowsTell}
 use Rattle.iam_classes.specs.declared.memo.Class.{Class}
 use Rattle.iam_classes.specs.Memo.{MemoValue}

@@ -1,5 +1,0 @@
-mod FindLemmas
-mod GatherLemmas
-mod LaneLemmas
-mod SpanLemmas
-mod WordLemmas

@@ -1,7 +1,0 @@
-use Rattle.iam_span.specs.Code.{Picks}
-use Rattle.iam_span.proofs.GatherLemmas.{AreGathered}
-use Rattle.iam_span.proofs.gather.Batch.lanes.Given as goal
-
--- the bits of those looked at
-abbrev pub invariant-loop-i : goal.invariant-loop-i
-invariant-loop-i l = AreGathered (λ m. Picks l.pick m) l.self l.lanes l.i

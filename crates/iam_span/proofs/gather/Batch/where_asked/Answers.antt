@@ -1,6 +1,0 @@
-use Rattle.std.proofs.Common.{inl}
-use Rattle.iam_span.proofs.LaneLemmas.{all_lane}
-use Rattle.iam_span.proofs.gather.Batch.where_asked.Goals as goal
-
-pub returns-else-asked : goal.returns-else-asked
-returns-else-asked c = λ k found below are. all_lane c.args.self.count k _ c.args.self.few below (inl c.if-asked.false)
