@@ -141,6 +141,7 @@ world_all every p actions is same = record {
     subst (λ (l : List (List ℕ)). Contains l action) (sym same) (subst (λ (o : Option (List Sign)). IsMeantBy o every.world action) is meant),
     λ text unnamed says a policies. all_alike a action,
   );
+  asked = inl (is, same);
 }
   where
     all_alike : (a : ApplicableValue) (action : List ℕ) → AreAlikeActions a action action
@@ -176,6 +177,7 @@ shown_all groups_are every p pattern actions is given =
                 subst (λ (x : ApplicableValue). AreAlikeActions x shown action) (one_applies every.world p unnamed c b apply policies)
                 (reads shown action ((are_groups shown action).0 alike a a_among)),
           );
+      asked = inr (pattern, is, given);
     }
 
 asked_all : OwnActionGroupsAreGroups → (every : EveryValue) (p : ℕ) (actions : List (List ℕ)) → AreAsked every p actions → AreAllActions every p actions

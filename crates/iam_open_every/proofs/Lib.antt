@@ -4,6 +4,7 @@ mod ConcernedLemmas
 mod GroupLemmas
 mod LineLemmas
 mod LookedLemmas
+mod MadeLemmas
 mod ReportLemmas
 mod RowLemmas
 mod SaidLemmas

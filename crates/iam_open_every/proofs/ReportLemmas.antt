@@ -13,7 +13,8 @@ use Rattle.iam_row.proofs.Rows.{found}
 use Rattle.iam_row.specs.declared.quoted.Format.{Format}
 use Rattle.iam_open_every.specs.Code.Texts.{IsChosen, all_rows, named_in, named_rows, rows_in}
 use Rattle.iam_open_every.specs.Report.{AreWanted, IsWanted, NamedRow, OfRows, row_text, rows_text}
-use Rattle.iam_open_every.specs.Rows.{AreRows, RowValue, row_of}
+use Rattle.iam_open_every.specs.Row.{RowValue, row_of}
+use Rattle.iam_open_every.specs.Rows.{AreRows}
 use Rattle.iam_open_every.specs.declared.crew.Chosen.{Chosen}
 use Rattle.iam_open_every.specs.declared.rows.Row.{Row}
 use Rattle.iam_world.specs.World.{WorldValue}

@@ -1,6 +1,6 @@
 -- Rows for actions and texts answer for all requests.
-use Rattle.std.proofs.Common.{◌≡◌, ◌<◌, ◌+◌, ◌⊎◌, ◌∷◌, [], ◌++◌, inl, inr, List, ℕ, All, Bool, Contains, IsSome, MatchOption, None, Option, Some, get_or, length, map, refl, sym, ap, subst, take, ◌∙◌}
-use Rattle.std.proofs.lemmas.List.Elements.{All-append, All-cons, All-contains, All-nil, Contains-append_left, Contains-append_right, Contains-get_or, Contains-push_cases}
+use Rattle.std.proofs.Common.{◌≡◌, ◌<◌, ◌⊎◌, [], inl, inr, List, ℕ, Bool, Contains, IsSome, MatchOption, None, Option, Some, get_or, length, map, refl, sym, ap, subst, ◌∙◌}
+use Rattle.std.proofs.lemmas.List.Elements.{All-contains, Contains-get_or}
 use Rattle.std.proofs.lemmas.Option.{slice_get_within}
 use Rattle.std.specs.Borrow.{Bor}
 use Rattle.std.specs.List.{slice_get}
@@ -9,120 +9,30 @@ use Rattle.iam_decision.specs.Applicable.{ApplicableValue}
 use Rattle.iam_decision.specs.declared.verdict.Decision.{Decision}
 use Rattle.iam_every.specs.Alike.{AreAlikeActions}
 use Rattle.iam_every.specs.Every.{ActionsPass, AreThere, EveryValue, IsMeantAction, IsNamed, LineValue, Says}
-use Rattle.iam_every.proofs.ListLemmas.{here, mapped, of_mapped}
+use Rattle.iam_every.proofs.ListLemmas.{mapped, of_mapped}
 use Rattle.iam_every.proofs.LineLemmas.{at_in, in_at}
 use Rattle.iam_every.proofs.MeantLemmas.{some_said}
 use Rattle.iam_every.proofs.NamesLemmas.{last, one_some}
-use Rattle.iam_every.proofs.WalkLemmas.{taken_more}
 use Rattle.iam_layers.specs.Applicable.{applicable_of}
 use Rattle.iam_layers.specs.Cell.{IsAction}
 use Rattle.iam_layers.specs.Unnamed.{AreUnnamedPolicies, IsSaid, IsThere, bare_resource, world_and}
 use Rattle.iam_layers.specs.declared.unnamed.Unnamed.{Unnamed}
 use Rattle.iam_layers.specs.declared.unnamed.Unnamed.TheVariants.{Like, Of}
 use Rattle.iam_open_every.specs.Actions.{AlikeActionsAreTurnedAlike, AreActionsTurnedAlike, AreAlikeFor, AreAllActions}
-use Rattle.iam_open_every.specs.Code.Rows.{AreRowsBy, IsRowOn, IsSaidAt, unshown_row}
-use Rattle.iam_open_every.specs.Rows.{Answers, AreRequestsTurnedAlike, AreRows, HasSaid, IsRight, IsToldUnshown, IsUnshown, RowValue}
+use Rattle.iam_open_every.specs.Made.{AreJoined, AreLookedAt, AreOfAction, IsRowOn, unshown_row}
+use Rattle.iam_open_every.specs.Row.{RowValue}
+use Rattle.iam_open_every.specs.Rows.{Answers, AreRows, HasSaid, IsRight, IsToldUnshown, IsUnshown}
 use Rattle.iam_open_every.specs.Said.{AreSaid, AreSaidOf}
 use Rattle.iam_open_every.specs.Spots.{AreSpots, IsOfLine, IsSpot, IsTextSpot, IsUnshownSpot, SpotValue, StandsFor}
 use Rattle.iam_open_every.specs.Texts.{AreTextsTurnedAlike}
-use Rattle.iam_open_every.specs.Turned.{AreTurnedAlike, IsUnnamedDecisionIn}
+use Rattle.iam_open_every.specs.Turned.{IsUnnamedDecisionIn}
 use Rattle.iam_open_every.specs.declared.said.Said.{Said}
+use Rattle.iam_open_every.proofs.MadeLemmas.{among_joined, beside, of_beside, of_joined}
 use Rattle.iam_open.specs.Seat.{IsSeat}
 use Rattle.iam_open.specs.declared.scene.Target.{Target}
 use Rattle.iam_open.specs.declared.scene.Target.TheVariants as target
 use Rattle.iam_row.proofs.Rows.{found}
-use Rattle.iam_world.specs.World.{PrincipalValue, ResourceValue, WorldValue}
-
--- ---- rows that are collected
--- the row is one of those that are asked for
-abbrev IsOneBy : Bool → EveryValue → ℕ → (List ℕ → SpotValue → Type 0) → RowValue → Type 0
-IsOneBy brief every p Asked row = (action : List ℕ) × (spot : SpotValue) × Asked action spot × IsRowOn brief every p action spot row
-
--- no rows for none
-pub rows_none : (brief : Bool) (every : EveryValue) (p : ℕ) (P : List ℕ → SpotValue → Type 0)
-    → ((action : List ℕ) (spot : SpotValue) → ¬ P action spot) → AreRowsBy brief every p P []
-rows_none brief every p P never = record {
-  each = All-nil (IsOneBy brief every p P);
-  all = λ action spot asked. absurd (never action spot asked);
-}
-
--- further rows behind them
-pub rows_more : (brief : Bool) (every : EveryValue) (p : ℕ) (P Q R : List ℕ → SpotValue → Type 0) (xs ys : List RowValue)
-    → AreRowsBy brief every p P xs → AreRowsBy brief every p Q ys
-    → ((action : List ℕ) (spot : SpotValue) → P action spot → R action spot) → ((action : List ℕ) (spot : SpotValue) → Q action spot → R action spot)
-    → ((action : List ℕ) (spot : SpotValue) → R action spot → P action spot ⊎ Q action spot) → AreRowsBy brief every p R (xs ++ ys)
-rows_more brief every p P Q R xs ys are further first second either = record {
-  each = All-append (IsOneBy brief every p R) xs ys (weaker P first xs are.each) (weaker Q second ys further.each);
-  all = λ action spot asked. elim (either action spot asked) [
-    | inl one ↦ let (row, there, is) = are.all action spot one in (row, Contains-append_left xs ys row there, is)
-    | inr other ↦ let (row, there, is) = further.all action spot other in (row, Contains-append_right xs ys row there, is)
-  ];
-}
-  where
-    weaker : (A : List ℕ → SpotValue → Type 0) → ((action : List ℕ) (spot : SpotValue) → A action spot → R action spot) → (rows : List RowValue)
-        → All (IsOneBy brief every p A) rows → All (IsOneBy brief every p R) rows
-    weaker A more rows each k d below = let (action, spot, asked, is) = each k d below in (action, spot, more action spot asked, is)
-
--- one row
-pub row_alone : (brief : Bool) (every : EveryValue) (p : ℕ) (action : List ℕ) (spot : SpotValue) (row : RowValue) → IsRowOn brief every p action spot row
-    → AreRowsBy brief every p (λ asked its. (asked ≡ action) × (its ≡ spot)) (row ∷ [])
-row_alone brief every p action spot row is = record {
-  each = All-cons (IsOneBy brief every p Asked) row [] (action, spot, (refl, refl), is) (All-nil (IsOneBy brief every p Asked));
-  all = λ asked its (same, alike). (
-    row,
-    here row [],
-    subst (λ (a : List ℕ). IsRowOn brief every p a its row) (sym same) (subst (λ (s : SpotValue). IsRowOn brief every p action s row) (sym alike) is),
-  );
-}
-  where
-    Asked : List ℕ → SpotValue → Type 0
-    Asked asked its = (asked ≡ action) × (its ≡ spot)
-
--- ---- one after the other
-next_cases : {X : Type 0} (xs : List X) (i : ℕ) (x y : X) → i < length xs → x ≡ get_or xs i x → Contains (take (i + 1) xs) y
-    → Contains (take i xs) y ⊎ (x ≡ y)
-next_cases {X} xs i x y below is among =
-    Contains-push_cases (take i xs) x y (subst (λ (l : List X). Contains l y) (taken_more xs i x below is) among)
-
-next_keeps : {X : Type 0} (xs : List X) (i : ℕ) (x y : X) → i < length xs → x ≡ get_or xs i x → Contains (take i xs) y → Contains (take (i + 1) xs) y
-next_keeps {X} xs i x y below is among =
-    subst (λ (l : List X). Contains l y) (sym (taken_more xs i x below is)) (Contains-append_left (take i xs) (x ∷ []) y among)
-
-next_has : {X : Type 0} (xs : List X) (i : ℕ) (x : X) → i < length xs → x ≡ get_or xs i x → Contains (take (i + 1) xs) x
-next_has {X} xs i x below is =
-    subst (λ (l : List X). Contains l x) (sym (taken_more xs i x below is)) (Contains-append_right (take i xs) (x ∷ []) x (here x []))
-
--- a row for one more text
-pub spot_more : (brief : Bool) (every : EveryValue) (p : ℕ) (action : List ℕ) (spots : List SpotValue) (i : ℕ) (spot : SpotValue)
-    (rows : List RowValue) (row : RowValue) → i < length spots → spot ≡ get_or spots i spot
-    → AreRowsBy brief every p (λ asked its. (asked ≡ action) × Contains (take i spots) its) rows → IsRowOn brief every p action spot row
-    → AreRowsBy brief every p (λ asked its. (asked ≡ action) × Contains (take (i + 1) spots) its) (rows ++ (row ∷ []))
-spot_more brief every p action spots i spot rows row below is are on =
-    rows_more brief every p (λ asked its. (asked ≡ action) × Contains (take i spots) its) (λ asked its. (asked ≡ action) × (its ≡ spot))
-    (λ asked its. (asked ≡ action) × Contains (take (i + 1) spots) its) rows (row ∷ []) are (row_alone brief every p action spot row on)
-    (λ asked its (same, among). (same, next_keeps spots i spot its below is among))
-    (λ asked its (same, alike). (same, subst (λ (s : SpotValue). Contains (take (i + 1) spots) s) (sym alike) (next_has spots i spot below is)))
-    (λ asked its (same, among). elim (next_cases spots i spot its below is among) [
-      | inl before ↦ inl (same, before)
-      | inr alike ↦ inr (same, sym alike)
-    ])
-
--- the rows for one more action
-pub action_more : (brief : Bool) (every : EveryValue) (p : ℕ) (actions : List (List ℕ)) (i : ℕ) (action : List ℕ) (spots : List SpotValue)
-    (rows more : List RowValue) → i < length actions → action ≡ get_or actions i action
-    → AreRowsBy brief every p (λ asked its. Contains (take i actions) asked × Contains spots its) rows
-    → AreRowsBy brief every p (λ asked its. (asked ≡ action) × Contains spots its) more
-    → AreRowsBy brief every p (λ asked its. Contains (take (i + 1) actions) asked × Contains spots its) (rows ++ more)
-action_more brief every p actions i action spots rows more below is are further =
-    rows_more brief every p (λ asked its. Contains (take i actions) asked × Contains spots its) (λ asked its. (asked ≡ action) × Contains spots its)
-    (λ asked its. Contains (take (i + 1) actions) asked × Contains spots its) rows more are further
-    (λ asked its (among, inside). (next_keeps actions i action asked below is among, inside))
-    (λ asked its (same, inside).
-    (subst (λ (a : List ℕ). Contains (take (i + 1) actions) a) (sym same) (next_has actions i action below is), inside))
-    (λ asked its (among, inside). elim (next_cases actions i action asked below is among) [
-      | inl before ↦ inl (before, inside)
-      | inr same ↦ inr (sym same, inside)
-    ])
+use Rattle.iam_world.specs.World.{ResourceValue, WorldValue}
 
 -- ---- actions
 -- the policies that apply to such a resource
@@ -241,21 +151,24 @@ answering law brief every p action text shown unnamed spot row inside there alik
 
 pub all_rows : AlikeActionsAreTurnedAlike → (brief : Bool) (every : EveryValue) (p : ℕ) (actions : List (List ℕ)) (spots : List SpotValue)
     (rows : List RowValue) → p < length every.world.principals → AreThere every → AreAllActions every p actions → AreSpots every p spots
-    → AreRowsBy brief every p (λ action spot. Contains actions action × Contains spots spot) rows → AreRows brief every p rows
-all_rows law brief every p actions spots rows inside there are_actions are_spots by = record {
+    → AreLookedAt every p spots → AreJoined (AreOfAction brief every p spots) actions rows → AreRows brief every p rows
+all_rows law brief every p actions spots rows inside there are_actions are_spots looked_at joined = record {
   right = λ i d below.
       let row = get_or rows i d in
-      let (action, spot, (in', at), on) = by.each i d below in
+      let (action, in', (one, zip, among)) = of_joined (AreOfAction brief every p spots) actions rows row joined (Contains-get_or rows i d below) in
+      let (spot, at, on) = of_beside (IsRowOn brief every p action) spots one row zip among in
       right_row brief every p action spot row (All-contains (IsMeantAction every) actions action are_actions.meant in')
       (All-contains (IsSpot every p) spots spot are_spots.right at) on;
   whole = λ action text unnamed meant resource says.
       let (shown, in', alike) = are_actions.whole action meant in
       let (spot, at, stands) = are_spots.whole text unnamed resource says in
-      let (row, among, on) = by.all shown spot (in', at) in (
+      let (one, zip, each) = among_joined (AreOfAction brief every p spots) actions rows shown joined in' in
+      let (row, among, on) = beside (IsRowOn brief every p shown) spots one spot zip at in (
         row,
-        among,
+        each row among,
         answering law brief every p action text shown unnamed spot row inside (says_there every text unnamed there says) (alike text unnamed says) stands on,
       );
+  made = inr (actions, are_actions.asked, (spots, looked_at, joined));
 }
 
 -- where the actions are too many no line is shown
@@ -276,4 +189,5 @@ unshown_all brief every p rows are passes =
             subst (λ (l : List RowValue). Contains l (unshown line)) (sym are) among,
             inr (refl, (k, line, first, refl), inr passes),
           );
+      made = inl (passes, are);
     }

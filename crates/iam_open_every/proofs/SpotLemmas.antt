@@ -16,8 +16,8 @@ use Rattle.iam_every.proofs.ListLemmas.{here, mapped, of_mapped}
 use Rattle.iam_every.proofs.MeantLemmas.{in_range}
 use Rattle.iam_every.proofs.MemberLemmas.{in_chosen}
 use Rattle.iam_every.proofs.NamesLemmas.{one_some}
-use Rattle.iam_open_every.specs.Code.Spots.{AreSpotsOn, text_spot, unshown_spot}
-use Rattle.iam_open_every.specs.Spots.{AreSpots, IsLineUnshown, IsSpot, IsTextSpot, SpotValue, StandsFor}
+use Rattle.iam_open_every.specs.Code.Spots.{AreSpotsOn}
+use Rattle.iam_open_every.specs.Spots.{AreSpots, IsLineUnshown, IsSpot, IsTextSpot, SpotValue, StandsFor, text_spot, unshown_spot}
 use Rattle.iam_open_every.specs.Texts.{AreAllTexts}
 use Rattle.iam_world.specs.World.{ResourceValue}
 

@@ -6,6 +6,7 @@ use Rattle.iam_decision.specs.Applicable.{ApplicableValue}
 use Rattle.iam_decision.specs.declared.verdict.Decision.{Decision}
 use Rattle.iam_every.specs.Alike.{AreAlikeActions}
 use Rattle.iam_every.specs.Every.{EveryValue, IsMeantAction, Says}
+use Rattle.iam_every.specs.Made.{AreAsked}
 use Rattle.iam_layers.specs.Unnamed.{AreUnnamedPolicies}
 use Rattle.iam_layers.specs.declared.unnamed.Unnamed.{Unnamed}
 use Rattle.iam_open_every.specs.Turned.{IsUnnamedDecisionIn}
@@ -27,8 +28,10 @@ AlikeActionsAreTurnedAlike =
 abbrev pub AreAlikeFor : WorldValue → ℕ → Unnamed → List ℕ → List ℕ → Type 0
 AreAlikeFor world p unnamed one other = (a : ApplicableValue) → AreUnnamedPolicies world p unnamed a → AreAlikeActions a one other
 
--- actions that are meant; each one that is meant is like one of them, whatever is said of the resource
+-- actions that are meant; each one that is meant is like one of them, whatever is said of the resource; they are those of the world, or one
+-- of each kind
 pub record AreAllActions (every : EveryValue) (p : ℕ) (actions : List (List ℕ)) : Type 0 where
   pub meant : All (IsMeantAction every) actions
   pub whole : (action : List ℕ) → IsMeantAction every action → (shown : List ℕ) × Contains actions shown
       × ((text : List ℕ) (unnamed : Unnamed) → Says every text unnamed → AreAlikeFor every.world p unnamed shown action)
+  pub asked : AreAsked every p actions

@@ -5,7 +5,9 @@ pub mod Concerned
 pub mod Groups
 pub mod Lines
 pub mod Looked
+pub mod Made
 pub mod Report
+pub mod Row
 pub mod Rows
 pub mod Said
 pub mod Spots

@@ -1,6 +1,6 @@
 -- The report on all names, whatever values the keys have that nothing gives: the rows of principals, one behind the other, as CSV and as
 -- JSON. It names no worker. LOGIC 11.12 and 13.11.
-use Rattle.std.specs.Prelude.{◌≡◌, ◌≤◌, ◌<◌, ◌+◌, ⊤, ℕ, All, Any, Bool, IsTrue, true, false, List, [], ◌∷◌, ◌++◌, MatchBool, MatchOption, Option, Some, None, codes, is_none, length, map}
+use Rattle.std.specs.Prelude.{◌≡◌, ◌≤◌, ◌<◌, ◌+◌, ⊤, ℕ, All, Any, Bool, IsTrue, true, false, List, [], ◌∷◌, ◌++◌, MatchBool, MatchOption, Option, Some, None, is_none, length, map}
 use Rattle.std.specs.List.{AllZip, flat_map, list_any}
 use Rattle.iam_decision.specs.Matched.{Selects}
 use Rattle.iam_layers.specs.Cell.{IsPrincipal, principal_text}
@@ -14,7 +14,8 @@ use Rattle.iam_row.specs.declared.quoted.Format.{Format}
 use Rattle.iam_row.specs.declared.quoted.Format.TheVariants.{Csv, Json}
 use Rattle.iam_every.specs.Every.{EveryValue}
 use Rattle.iam_every.specs.Report.{unshown_word}
-use Rattle.iam_open_every.specs.Rows.{AreRows, RowValue}
+use Rattle.iam_open_every.specs.Row.{RowValue}
+use Rattle.iam_open_every.specs.Rows.{AreRows}
 use Rattle.iam_open_every.specs.declared.said.Said.{Said}
 
 -- a row of this number, of texts as they stand in it: what is said of its request; or that its line is not shown, and nothing beside it

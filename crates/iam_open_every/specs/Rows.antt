@@ -1,28 +1,18 @@
 -- The rows that answer for a principal what is asked of all names, whatever values the keys have that nothing gives: AWS IAM User Guide,
 -- "Policy evaluation logic" and "AWS global condition context keys". LOGIC 11.6 and 11.12.
-use Rattle.std.specs.Prelude.{◌≡◌, ◌⊎◌, ℕ, Bool, List, All, Contains, IsSome, MatchOption, None, Option, Some, string_bytes}
-use Rattle.std.specs.Arc.{arc_value}
+use Rattle.std.specs.Prelude.{◌≡◌, ◌⊎◌, ℕ, Bool, List, All, Contains, IsSome, MatchOption, None, Some}
 use Rattle.std.specs.List.{slice_get}
 use Rattle.iam_context.specs.Context.{ContextValue}
 use Rattle.iam_decision.specs.declared.verdict.Decision.{Decision}
 use Rattle.iam_layers.specs.declared.unnamed.Unnamed.{Unnamed}
 use Rattle.iam_every.specs.Every.{ActionsPass, EveryValue, IsMeantAction, IsNamed, IsResourceText, LineValue, Says}
+use Rattle.iam_open_every.specs.Made.{AreMade}
+use Rattle.iam_open_every.specs.Row.{RowValue}
 use Rattle.iam_open_every.specs.Said.{AreSaidOf}
 use Rattle.iam_open_every.specs.Spots.{IsLineUnshown, IsOfLine, IsTextSpot}
 use Rattle.iam_open_every.specs.Turned.{IsUnnamedDecisionIn}
-use Rattle.iam_open_every.specs.declared.rows.Row.{Row}
 use Rattle.iam_open_every.specs.declared.said.Said.{Said}
 use Rattle.iam_world.specs.World.{WorldValue}
-
--- a request, and what is said of it; or a line of which not all texts, or not all actions, could be shown, by its pattern as it is written
-pub record RowValue : Type 0 where
-  pub action : List ℕ
-  pub resource : List ℕ
-  pub said : Option Said
-
--- without where it lies in memory
-abbrev pub row_of : Row → RowValue
-row_of row = record { action = string_bytes (arc_value row.action_text); resource = string_bytes (arc_value row.resource_text); said = row.said }
 
 -- this is said of principal p's request for the row's action on the resource of its text
 pub record HasSaid (brief : Bool) (every : EveryValue) (p : ℕ) (row : RowValue) (said : Said) : Type 0 where
@@ -57,8 +47,9 @@ abbrev pub IsToldUnshown : EveryValue → ℕ → List ℕ → RowValue → Type
 IsToldUnshown every p text row =
     (row.said ≡ None) × IsOfLine every text row.resource × (¬ IsNamed every.world text ⊎ ActionsPass every p)
 
--- each row is right, and every request that is meant is answered by one, or one says that it is not shown
+-- each row is right, every request that is meant is answered by one, or one says that it is not shown, and they are these in order, each once
 pub record AreRows (brief : Bool) (every : EveryValue) (p : ℕ) (rows : List RowValue) : Type 0 where
   pub right : All (IsRight brief every p) rows
   pub whole : (action text : List ℕ) (unnamed : Unnamed) → IsMeantAction every action → IsResourceText text → Says every text unnamed
       → (row : RowValue) × Contains rows row × (Answers every p action text unnamed row ⊎ IsToldUnshown every p text row)
+  pub made : AreMade brief every p rows

@@ -1,6 +1,6 @@
 -- Which texts of resources are looked at for a principal, whatever the action and whatever values the keys have that nothing gives: AWS IAM
 -- User Guide, "IAM JSON policy elements: Resource" and "NotResource". LOGIC 11.6 and 11.12.
-use Rattle.std.specs.Prelude.{◌≡◌, ◌⊎◌, ℕ, List, All, Contains, MatchOption, Option, Some, string_bytes}
+use Rattle.std.specs.Prelude.{◌≡◌, ◌⊎◌, ℕ, List, All, Contains, MatchOption, None, Option, Some, string_bytes}
 use Rattle.std.specs.Arc.{arc_value}
 use Rattle.std.specs.List.{slice_get}
 use Rattle.iam_layers.specs.declared.unnamed.Unnamed.{Unnamed}
@@ -17,6 +17,14 @@ pub record SpotValue : Type 0 where
 -- without where it lies in memory
 abbrev pub spot_of : Spot → SpotValue
 spot_of spot = record { text = string_bytes (arc_value spot.text); unnamed = spot.unnamed }
+
+-- a text, of which this is said
+abbrev pub text_spot : Unnamed → List ℕ → SpotValue
+text_spot unnamed text = record { text = text; unnamed = Some unnamed }
+
+-- a line that is written so, of which not all texts can be shown
+abbrev pub unshown_spot : List ℕ → SpotValue
+unshown_spot written = record { text = written; unnamed = None }
 
 -- not all texts of line k can be shown where principal p asks: there are too many kinds, or a resource element asks for a key that is not known
 abbrev pub IsLineUnshown : EveryValue → ℕ → ℕ → LineValue → Type 0

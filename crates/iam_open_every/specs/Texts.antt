@@ -3,11 +3,13 @@
 use Rattle.std.specs.Prelude.{◌≡◌, ℕ, List, All, Contains, MatchOption, Option, Some}
 use Rattle.std.specs.List.{slice_get}
 use Rattle.std.specs.Str.{IsUtf8}
+use Rattle.iam_decision.specs.Matched.{Selects}
 use Rattle.iam_glob.specs.declared.sign.Sign.{Sign}
 use Rattle.iam_kinds.specs.States.{PassesLimit}
 use Rattle.iam_layers.specs.declared.unnamed.Unnamed.{Unnamed}
-use Rattle.iam_every.specs.Code.Rows.{IsLined}
+use Rattle.iam_every.specs.Code.Rows.{IsFirstOf, IsLined}
 use Rattle.iam_every.specs.Every.{EveryValue, LineValue, line_question}
+use Rattle.iam_every.specs.Made.{AreShown}
 use Rattle.iam_open_every.specs.Looked.{AreOpenGroupsAt}
 use Rattle.iam_open_every.specs.Turned.{AreTurnedAlike}
 use Rattle.iam_world.specs.World.{WorldValue}
@@ -23,9 +25,16 @@ pub record AreAllTexts (every : EveryValue) (p k : ℕ) (texts : List (List ℕ)
   pub whole : (text : List ℕ) (unnamed : Unnamed) → IsUtf8 text → IsLined every k text unnamed
       → (shown : List ℕ) × Contains texts shown × AreTextsTurnedAlike every.world p unnamed shown text
 
--- by these groups there are too many kinds of texts, or these are all, for whom the groups tell all texts apart
+-- of the texts that are shown of line k, one of each kind by these groups, those of which the line is the first to speak
+pub record AreFirstShown (every : EveryValue) (k : ℕ) (line : LineValue) (groups : List (List (List Sign))) (texts : List (List ℕ)) : Type 0 where
+  pub kinds : List (List ℕ)
+  pub shown : AreShown (line_question every k line groups) kinds
+  pub first : Selects (λ text. IsFirstOf every.lines text k) kinds texts
+
+-- by these groups there are too many kinds of texts, or these are shown, and are all, for whom the groups tell all texts apart
 abbrev pub AreTextsBy : EveryValue → ℕ → List (List (List Sign)) → Option (List (List ℕ)) → Type 0
 AreTextsBy every k groups found =
     (line : LineValue) → slice_get every.lines k ≡ Some line
     → MatchOption found (PassesLimit (line_question every k line groups))
-    (λ texts. (p : ℕ) → AreOpenGroupsAt every.world p line.unnamed groups → AreAllTexts every p k texts)
+    (λ texts. AreFirstShown every k line groups texts
+    × ((p : ℕ) → AreOpenGroupsAt every.world p line.unnamed groups → AreAllTexts every p k texts))

@@ -6,7 +6,7 @@ ghost use Rattle.iam_every.specs.Every.{AreThere, every_of, line_of};
 ghost use Rattle.iam_every.specs.Code.Rows.{AreMatched, AreWalksOf};
 ghost use Rattle.iam_open_every.specs.Code.Texts.{IsChosen, IsTile};
 ghost use Rattle.iam_open_every.specs.Report.{IsWanted};
-ghost use Rattle.iam_open_every.specs.Rows.{row_of};
+ghost use Rattle.iam_open_every.specs.Row.{row_of};
 
 use crate::rows::{Row, rows_of};
 use iam_crew::{Bound, Crew, Gate, gather};

@@ -5,7 +5,7 @@ ghost use Rattle.iam_open.specs.declared.answer.Turned.TheVariants.{Open};
 ghost use Rattle.iam_row.specs.Piece.{quote_of};
 ghost use Rattle.iam_open_every.specs.Code.Texts.{named_rows};
 ghost use Rattle.iam_open_every.specs.Report.{comma_in, row_text, rows_text, said_text};
-ghost use Rattle.iam_open_every.specs.Rows.{row_of};
+ghost use Rattle.iam_open_every.specs.Row.{row_of};
 
 use crate::rows::Row;
 use crate::said::Said;

@@ -1,11 +1,12 @@
 // The rows that answer for a principal what is asked of all names, whatever values the keys have that nothing gives.
-ghost use Rattle.std.specs.Prelude.{◌≡◌, ◌<◌, Contains, IfOk, MatchOption, None, length, map, string_bytes};
+ghost use Rattle.std.specs.Prelude.{◌≡◌, ◌<◌, IfOk, None, length, map, string_bytes};
 ghost use Rattle.std.specs.Arc.{arc_value};
 ghost use Rattle.iam_every.specs.Code.Rows.{AreMatched, AreWalksOf, IsGiven};
 ghost use Rattle.iam_every.specs.Every.{AreThere, every_of, line_of};
 ghost use Rattle.iam_open_every.specs.Actions.{AreAllActions};
-ghost use Rattle.iam_open_every.specs.Code.Rows.{AreRowsBy, IsRowOn, IsSaidAt, unshown_row};
-ghost use Rattle.iam_open_every.specs.Rows.{AreRows, row_of};
+ghost use Rattle.iam_open_every.specs.Made.{AreJoined, AreOfAction, IsRowOn, IsSaidAt, unshown_row};
+ghost use Rattle.iam_open_every.specs.Row.{row_of};
+ghost use Rattle.iam_open_every.specs.Rows.{AreRows};
 ghost use Rattle.iam_open_every.specs.Spots.{AreSpots, IsSpot, spot_of};
 
 use crate::actions::{alike_actions_are_turned_alike, all_actions};
@@ -30,7 +31,7 @@ pub struct Row {
 
 impl Row {
     ghost use Rattle.std.specs.Prelude.{◌≡◌};
-    ghost use Rattle.iam_open_every.specs.Rows.{row_of};
+    ghost use Rattle.iam_open_every.specs.Row.{row_of};
 
     pub fn action(&self) -> &str
         ensures { result.now ≡ (row_of self.now).action }
@@ -125,7 +126,7 @@ fn unshown_row(alloc: Global, action: &str, text: &str) -> Result<Row, OutOfMemo
     })
 }
 
-/// A row for each of the actions and each text that is looked at.
+/// For one action after the other a row for each text that is looked at.
 fn rows_by(
     alloc: Global,
     given: Given<'_>,
@@ -135,8 +136,8 @@ fn rows_by(
 ) -> Result<Vec<Row>, OutOfMemory>
     requires given { IsGiven given }
     requires spots { AreSpots (every_of given.asked) given.p (map spot_of spots.now) }
-    ensures { IfOk result (λ rows. AreRowsBy brief (every_of given.entry.asked) given.entry.p
-        (λ action spot. Contains (map string_bytes actions.now) action × Contains (map spot_of spots.now) spot) (map row_of rows.items)) }
+    ensures { IfOk result (λ rows. AreJoined (AreOfAction brief (every_of given.entry.asked) given.entry.p (map spot_of spots.now))
+        (map string_bytes actions.now) (map row_of rows.items)) }
 {
     let mut rows = Vec::new(alloc);
     for action in actions {
@@ -147,7 +148,7 @@ fn rows_by(
     Ok(rows)
 }
 
-/// A row for the action and each text that is looked at.
+/// A row for the action and each text that is looked at, in order.
 fn rows_for(
     alloc: Global,
     given: Given<'_>,
@@ -157,8 +158,8 @@ fn rows_for(
 ) -> Result<Vec<Row>, OutOfMemory>
     requires given { IsGiven given }
     requires spots { AreSpots (every_of given.asked) given.p (map spot_of spots.now) }
-    ensures { IfOk result (λ rows. AreRowsBy brief (every_of given.entry.asked) given.entry.p
-        (λ asked spot. (asked ≡ string_bytes (arc_value action.now)) × Contains (map spot_of spots.now) spot) (map row_of rows.items)) }
+    ensures { IfOk result (λ rows. AreOfAction brief (every_of given.entry.asked) given.entry.p (map spot_of spots.now)
+        (string_bytes (arc_value action.now)) (map row_of rows.items)) }
 {
     let mut rows = Vec::with_capacity(alloc, spots.len())?;
     for spot in spots {

@@ -1,9 +1,11 @@
 // Which texts of resources are looked at for a principal, whatever the action.
 ghost use Rattle.std.specs.Prelude.{◌≡◌, ◌<◌, ◌∷◌, [], IfOk, length, map, string_bytes};
+ghost use Rattle.std.specs.List.{AllZip, range_with_len};
 ghost use Rattle.iam_every.specs.Code.Rows.{AreWalksOf, IsGiven, IsLined, IsLinedBelow, IsNamedAmong, IsStar};
 ghost use Rattle.iam_every.specs.Every.{every_of};
-ghost use Rattle.iam_open_every.specs.Code.Spots.{AreSpotsOn, text_spot, unshown_spot};
-ghost use Rattle.iam_open_every.specs.Spots.{AreSpots, spot_of};
+ghost use Rattle.iam_open_every.specs.Code.Spots.{AreSpotsOn};
+ghost use Rattle.iam_open_every.specs.Made.{AreJoined, AreLookedAt, AreOfLine, AreOfStar, IsOfResource};
+ghost use Rattle.iam_open_every.specs.Spots.{AreSpots, spot_of, text_spot, unshown_spot};
 
 use crate::lines::{LineTexts, line_texts};
 use iam_every::{Given, first_line, is_among};
@@ -34,6 +36,7 @@ pub fn spots_of<'a>(
     requires walks { AreWalksOf given.asked.world.now walks.old }
     ensures walks { AreWalksOf given.entry.asked.world.now walks.new }
     ensures spots { IfOk result (λ spots. AreSpots (every_of given.entry.asked) given.entry.p (map spot_of spots.items)) }
+    ensures made { IfOk result (λ spots. AreLookedAt (every_of given.entry.asked) given.entry.p (map spot_of spots.items)) }
 {
     let mut spots = named_spots(alloc, given)?;
     let mut star = star_spots(alloc, given)?;
@@ -56,8 +59,9 @@ fn text_spot<'a>(alloc: Global, unnamed: Unnamed<'a>, text: String) -> Result<Sp
 /// Those of the resources of the world.
 fn named_spots<'a>(alloc: Global, given: Given<'a>) -> Result<Vec<Spot<'a>>, OutOfMemory>
     requires given { IsGiven given }
-    ensures { IfOk result (λ spots. AreSpotsOn (every_of given.entry.asked) given.entry.p
+    ensures spots { IfOk result (λ spots. AreSpotsOn (every_of given.entry.asked) given.entry.p
         (IsNamedAmong (every_of given.entry.asked) given.entry.matched.now) (map spot_of spots.items)) }
+    ensures made { IfOk result (λ spots. AllZip (IsOfResource (every_of given.entry.asked)) given.entry.matched.now (map spot_of spots.items)) }
 {
     let mut spots = Vec::with_capacity(alloc, given.matched.len())?;
     for i in 0..given.matched.len() {
@@ -71,8 +75,9 @@ fn named_spots<'a>(alloc: Global, given: Given<'a>) -> Result<Vec<Spot<'a>>, Out
 /// That of `*`, if a line speaks of it and no resource of the world has it.
 fn star_spots<'a>(alloc: Global, given: Given<'a>) -> Result<Vec<Spot<'a>>, OutOfMemory>
     requires given { IsGiven given }
-    ensures { IfOk result (λ spots. AreSpotsOn (every_of given.entry.asked) given.entry.p
+    ensures spots { IfOk result (λ spots. AreSpotsOn (every_of given.entry.asked) given.entry.p
         (IsStar (every_of given.entry.asked)) (map spot_of spots.items)) }
+    ensures made { IfOk result (λ spots. AreOfStar (every_of given.entry.asked) (map spot_of spots.items)) }
 {
     if is_among(given.names, "*") {
         return Ok(Vec::new(alloc));
@@ -107,6 +112,8 @@ fn lined_spots<'a>(
     ensures walks { AreWalksOf given.entry.asked.world.now walks.new }
     ensures spots { IfOk result (λ spots. AreSpotsOn (every_of given.entry.asked) given.entry.p
         (IsLinedBelow (every_of given.entry.asked) (length given.entry.asked.lines.now)) (map spot_of spots.items)) }
+    ensures made { IfOk result (λ spots. AreJoined (AreOfLine (every_of given.entry.asked) given.entry.p)
+        (range_with_len 0 (length given.entry.asked.lines.now)) (map spot_of spots.items)) }
 {
     let mut spots = Vec::new(alloc);
     for k in 0..given.asked.lines.len() {
@@ -129,6 +136,7 @@ fn line_spots<'a>(
     ensures walks { AreWalksOf given.entry.asked.world.now walks.new }
     ensures spots { IfOk result (λ spots. AreSpotsOn (every_of given.entry.asked) given.entry.p
         (IsLined (every_of given.entry.asked) k) (map spot_of spots.items)) }
+    ensures made { IfOk result (λ spots. AreOfLine (every_of given.entry.asked) given.entry.p k (map spot_of spots.items)) }
 {
     let line = given.asked.lines[k];
     match line_texts(alloc, walks, given, k)? {

@@ -1,14 +1,8 @@
 -- Texts that are looked at, as they are collected.
-use Rattle.std.specs.Prelude.{ℕ, All, Contains, List, None, Some}
+use Rattle.std.specs.Prelude.{ℕ, All, Contains, List}
 use Rattle.iam_layers.specs.declared.unnamed.Unnamed.{Unnamed}
 use Rattle.iam_every.specs.Every.{EveryValue, IsResourceText, Says}
 use Rattle.iam_open_every.specs.Spots.{IsSpot, SpotValue, StandsFor}
-
-abbrev pub text_spot : Unnamed → List ℕ → SpotValue
-text_spot unnamed text = record { text = text; unnamed = Some unnamed }
-
-abbrev pub unshown_spot : List ℕ → SpotValue
-unshown_spot written = record { text = written; unnamed = None }
 
 -- those of the texts of which P holds together with what is said of them
 pub record AreSpotsOn (every : EveryValue) (p : ℕ) (P : List ℕ → Unnamed → Type 0) (spots : List SpotValue) : Type 0 where

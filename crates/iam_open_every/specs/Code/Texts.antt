@@ -6,7 +6,7 @@ use Rattle.iam_every.specs.Code.Texts.{text_if}
 use Rattle.iam_every.specs.Every.{AreThere, EveryValue, every_of}
 use Rattle.iam_open.specs.declared.asked.Word.{Word}
 use Rattle.iam_open_every.specs.Report.{AreWanted, NamedRow, OfRows, has_unshown}
-use Rattle.iam_open_every.specs.Rows.{row_of}
+use Rattle.iam_open_every.specs.Row.{row_of}
 use Rattle.iam_open_every.specs.declared.crew.Chosen.{Chosen}
 use Rattle.iam_open_every.specs.declared.crew.Principals.{Principals}
 use Rattle.iam_open_every.specs.declared.rows.Row.{Row}

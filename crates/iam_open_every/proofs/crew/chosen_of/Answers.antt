@@ -4,7 +4,7 @@ use Rattle.std.specs.List.{list_any}
 use Rattle.iam_element.proofs.ElementLemmas.{list_any_map}
 use Rattle.iam_every.specs.Every.{every_of}
 use Rattle.iam_open_every.specs.Report.{has_unshown}
-use Rattle.iam_open_every.specs.Rows.{RowValue, row_of}
+use Rattle.iam_open_every.specs.Row.{RowValue, row_of}
 use Rattle.iam_open_every.specs.declared.rows.Row.{Row}
 use Rattle.iam_open_every.proofs.ReportLemmas.{told_of, wanted_one}
 use Rattle.iam_open_every.proofs.crew.chosen_of.Goals as goal

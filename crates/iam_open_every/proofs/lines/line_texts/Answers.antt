@@ -43,10 +43,26 @@ returns-in-Some-2-clause-texts c =
     subst (λ gs. AreTextsBy every k (groups_of gs) (Some (map string_bytes c.in-Some-2.texts.items))) c.as_slice.ensures.value
     (subst (λ found. AreTextsBy every k (groups_of c.as_slice.result.now) (option_map (λ texts. map string_bytes texts.items) found)) c.in-Some-2.is
     c.in_ok-texts.ensures.texts) in
-    are line (line_read lines k d c.requires.line) p
-    (tell_by every p line scene.world.now scene.p scene.target _ groups of.world of.principal of.target
+    let at = line_read lines k d c.requires.line in
+    let (shown, all) = are line at in
+    let tell =
+    tell_by every p line scene.world.now scene.p scene.target _ groups of.world of.principal of.target
     (λ unnamed text is. subst (λ found. IfSome found (λ gs. AreOpenGroupsAt scene.world.now scene.p unnamed (groups_of gs.items))) c.in-Some.is
-    (c.in_ok-groups.ensures.apart unnamed text is)))
+    (c.in_ok-groups.ensures.apart unnamed text is)) in (
+      all p tell,
+      (
+        line,
+        at,
+        record {
+          groups = groups;
+          seen = on_line (λ world q r. AreGroupsSeen world q r groups) every p line scene.world.now scene.p scene.target _ of.world of.principal of.target
+              (λ other r seat. subst (λ found. IfSome found (λ gs. AreGroupsSeen other scene.p r (groups_of gs.items))) c.in-Some.is
+              (c.in_ok-groups.ensures.seen other r seat));
+          tell = tell;
+          shown = shown;
+        },
+      ),
+    )
 
 pub returns-clause-texts : goal.returns-clause-texts
 returns-clause-texts c =

@@ -8,8 +8,9 @@ use Rattle.iam_every.specs.Code.Rows.{AreNames}
 use Rattle.iam_every.specs.Every.{ActionsPass, every_of}
 use Rattle.iam_every.proofs.LineLemmas.{ascii}
 use Rattle.iam_open_every.specs.Actions.{AreAllActions}
-use Rattle.iam_open_every.specs.Code.Rows.{unshown_row}
-use Rattle.iam_open_every.specs.Rows.{AreRows, row_of}
+use Rattle.iam_open_every.specs.Made.{unshown_row}
+use Rattle.iam_open_every.specs.Row.{row_of}
+use Rattle.iam_open_every.specs.Rows.{AreRows}
 use Rattle.iam_open_every.proofs.RowLemmas.{unshown_all}
 use Rattle.iam_open_every.proofs.rows.rows_of.Goals as goal
 

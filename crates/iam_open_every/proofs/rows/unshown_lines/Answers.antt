@@ -2,8 +2,8 @@ use Rattle.std.proofs.Common.{◌∷◌, [], ◌++◌, map, ap, ◌∙◌}
 use Rattle.std.proofs.lemmas.List.{map-append}
 use Rattle.iam_every.specs.Every.{line_of}
 use Rattle.iam_every.proofs.ListLemmas.{map_more}
-use Rattle.iam_open_every.specs.Code.Rows.{unshown_row}
-use Rattle.iam_open_every.specs.Rows.{RowValue, row_of}
+use Rattle.iam_open_every.specs.Made.{unshown_row}
+use Rattle.iam_open_every.specs.Row.{RowValue, row_of}
 use Rattle.iam_open_every.proofs.rows.unshown_lines.Goals as goal
 
 pub loop-line-preserved : goal.loop-line-preserved

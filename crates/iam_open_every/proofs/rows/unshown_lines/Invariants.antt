@@ -1,7 +1,7 @@
 use Rattle.std.proofs.Common.{◌≡◌, map, take}
 use Rattle.iam_every.specs.Every.{line_of}
-use Rattle.iam_open_every.specs.Code.Rows.{unshown_row}
-use Rattle.iam_open_every.specs.Rows.{row_of}
+use Rattle.iam_open_every.specs.Made.{unshown_row}
+use Rattle.iam_open_every.specs.Row.{row_of}
 use Rattle.iam_open_every.proofs.rows.unshown_lines.Given as goal
 
 abbrev pub invariant-loop-line : goal.invariant-loop-line

@@ -1,4 +1,4 @@
-use Rattle.std.proofs.Common.{◌≡◌, ◌<◌, ◌+◌, ◌∷◌, [], ◌++◌, ◌∙◌, ℕ, List, ap, arith, get_or, length, map, slice_index, subst, sym, take}
+use Rattle.std.proofs.Common.{◌≡◌, ◌<◌, ◌+◌, ◌∷◌, [], ◌++◌, ◌∙◌, ℕ, List, ap, arith, get_or, length, map, refl, slice_index, subst, sym, take}
 use Rattle.std.proofs.lemmas.Grind.{get_or_default_zero}
 use Rattle.std.proofs.lemmas.List.{map-append, take_all}
 use Rattle.iam_every.specs.Code.Rows.{IsNamedAmong}
@@ -7,12 +7,14 @@ use Rattle.iam_every.proofs.LineLemmas.{matched_first, matched_there}
 use Rattle.iam_every.proofs.NamesLemmas.{one_some}
 use Rattle.iam_every.proofs.WalkLemmas.{taken_more}
 use Rattle.iam_layers.specs.declared.unnamed.Unnamed.TheVariants.{Like}
-use Rattle.iam_open_every.specs.Code.Spots.{AreSpotsOn, text_spot}
-use Rattle.iam_open_every.specs.Spots.{SpotValue, spot_of}
+use Rattle.iam_open_every.specs.Code.Spots.{AreSpotsOn}
+use Rattle.iam_open_every.specs.Made.{IsOfResource}
+use Rattle.iam_open_every.specs.Spots.{SpotValue, spot_of, text_spot}
+use Rattle.iam_open_every.proofs.MadeLemmas.{zipped_more}
 use Rattle.iam_open_every.proofs.SpotLemmas.{named_more}
 use Rattle.iam_open_every.proofs.spots.named_spots.Goals as goal
 use Rattle.iam_world.specs.World.{ResourceValue}
-use Rattle.std.specs.List.{slice_get}
+use Rattle.std.specs.List.{AllZip, slice_get}
 
 pub resource_text-requires : goal.resource_text-requires
 resource_text-requires c =
@@ -40,12 +42,19 @@ loop-i-preserved c =
     ∙ ap (text_spot (Like r)) (c.in_ok-text.ensures.ok ∙ named ∙ ap (λ (x : ResourceValue). x.arn) one) in
     let now : map spot_of c.push.new.self.items ≡ spots ++ (text_spot (Like r) resource.arn ∷ []) =
     ap (map spot_of) c.in_ok-push.ensures.items ∙ map-append spot_of c.loop-i.spots.items _ ∙ ap (λ (x : SpotValue). spots ++ (x ∷ [])) spot in
-    subst (AreSpotsOn every p (IsNamedAmong every (take (i + 1) matched))) (sym now)
-    (subst (λ (done : List ℕ). AreSpotsOn every p (IsNamedAmong every done) (spots ++ (text_spot (Like r) resource.arn ∷ [])))
-    (sym (taken_more matched i r inside is)) (named_more every p (take i matched) r resource k spots c.loop-i.invariant at first))
+    record {
+      spots = subst (AreSpotsOn every p (IsNamedAmong every (take (i + 1) matched))) (sym now)
+          (subst (λ (done : List ℕ). AreSpotsOn every p (IsNamedAmong every done) (spots ++ (text_spot (Like r) resource.arn ∷ [])))
+          (sym (taken_more matched i r inside is)) (named_more every p (take i matched) r resource k spots c.loop-i.invariant.spots at first));
+      made = subst (λ (l : List SpotValue). AllZip (IsOfResource every) (take (i + 1) matched) l) (sym now)
+          (zipped_more (IsOfResource every) matched i r spots (text_spot (Like r) resource.arn) inside is c.loop-i.invariant.made (resource, at, refl));
+    }
 
 pub returns : goal.returns
 returns c =
     let every = every_of c.args.given.asked in
-    subst (λ done. AreSpotsOn every c.args.given.p (IsNamedAmong every done) (map spot_of c.loop-i.spots.items))
-    (take_all c.loop-i.i c.args.given.matched.now (omega (arith, c.loop-i-test.false))) c.loop-i.invariant
+    let all = take_all c.loop-i.i c.args.given.matched.now (omega (arith, c.loop-i-test.false)) in
+    let spots = map spot_of c.loop-i.spots.items in record {
+      spots = subst (λ done. AreSpotsOn every c.args.given.p (IsNamedAmong every done) spots) all c.loop-i.invariant.spots;
+      made = subst (λ (done : List ℕ). AllZip (IsOfResource every) done spots) all c.loop-i.invariant.made;
+    }

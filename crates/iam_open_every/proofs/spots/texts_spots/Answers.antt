@@ -1,8 +1,7 @@
 use Rattle.std.proofs.Common.{◌∷◌, [], ◌++◌, ◌∙◌, List, String, ap, append_assoc, map, string_bytes, sym}
 use Rattle.std.proofs.lemmas.List.{map-append}
 use Rattle.std.specs.Global.{Global}
-use Rattle.iam_open_every.specs.Code.Spots.{text_spot}
-use Rattle.iam_open_every.specs.Spots.{SpotValue, spot_of}
+use Rattle.iam_open_every.specs.Spots.{SpotValue, spot_of, text_spot}
 use Rattle.iam_open_every.proofs.spots.texts_spots.Goals as goal
 
 pub loop-text-preserved : goal.loop-text-preserved

@@ -1,6 +1,5 @@
 use Rattle.std.proofs.Common.{◌≡◌, ◌++◌, map, string_bytes}
-use Rattle.iam_open_every.specs.Code.Spots.{text_spot}
-use Rattle.iam_open_every.specs.Spots.{spot_of}
+use Rattle.iam_open_every.specs.Spots.{spot_of, text_spot}
 use Rattle.iam_open_every.proofs.spots.texts_spots.Given as goal
 
 abbrev pub invariant-loop-text : goal.invariant-loop-text

@@ -10,6 +10,7 @@ use Rattle.iam_kinds.specs.declared.kinds.Kinds.{Kinds}
 use Rattle.iam_every.specs.Every.{LineValue, every_of, line_of, line_question, patterns_of}
 use Rattle.iam_every.specs.Groups.{groups_of}
 use Rattle.iam_every.proofs.LineLemmas.{line_there}
+use Rattle.iam_every.proofs.MadeLemmas.{all_utf8}
 use Rattle.iam_open_every.proofs.TextLemmas.{are_texts, line_answer}
 use Rattle.iam_open_every.proofs.texts.all_texts.Goals as goal
 
@@ -24,7 +25,7 @@ slice_bounds-text_kinds-end c =
     sym (length-take-le c.args.k c.args.given.patterns.now (omega (arith, inside, long, all)))
 
 pub returns-in_ok-first_texts-in-Shown-clause-texts : goal.returns-in_ok-first_texts-in-Shown-clause-texts
-returns-in_ok-first_texts-in-Shown-clause-texts c = λ line at p tell.
+returns-in_ok-first_texts-in-Shown-clause-texts c = λ line at.
     let every = every_of c.args.given.asked in
     let k = c.args.k in
     let groups = groups_of c.args.groups.now in
@@ -36,9 +37,17 @@ returns-in_ok-first_texts-in-Shown-clause-texts c = λ line at p tell.
     (c.signs.ensures ∙ ap (λ (x : LineValue). x.pattern) same) c.requires.given.arn before
     (c.in_ok-texts.ensures.answer (map (λ resource. resource.arn) every.world.resources) (sym c.requires.walks.names)) in
     let shown = subst (λ (x : Kinds). IsAnswer (line_question every k line groups) x) c.in-Shown.is answer in
-    are_texts every p k line groups (map string_bytes c.in-Shown.texts.items) (map string_bytes c.in_ok-first_texts-in-Shown.field-0.items)
-    (subst (All IsUtf8) c.requires.given.names.are c.requires.given.names.utf8) at (subst (AreKinds (line_question every k line groups)) (sym (map-map chars string_bytes c.in-Shown.texts.items)) shown.0)
-    c.in_ok-first_texts-in-Shown.ensures tell
+    let texts = c.in-Shown.texts.items in
+    let kinds = subst (AreKinds (line_question every k line groups)) (sym (map-map chars string_bytes texts)) shown.0 in (
+      record {
+        kinds = map string_bytes texts;
+        shown = record { utf8 = all_utf8 texts; kinds = kinds; all = shown.1 };
+        first = c.in_ok-first_texts-in-Shown.ensures;
+      },
+      λ p tell.
+          are_texts every p k line groups (map string_bytes texts) (map string_bytes c.in_ok-first_texts-in-Shown.field-0.items)
+          (subst (All IsUtf8) c.requires.given.names.are c.requires.given.names.utf8) at kinds c.in_ok-first_texts-in-Shown.ensures tell,
+    )
 
 pub returns-in-NotShown-clause-texts : goal.returns-in-NotShown-clause-texts
 returns-in-NotShown-clause-texts c = λ line at.
