@@ -51,7 +51,7 @@ pub use first::first_turned_report;
 pub use hangs::{Hangs, scene_hangs};
 pub use iam_layers::{OutOfMemory, World};
 pub use known::Known;
-pub use pair::{certainly, certainly_where, scene_certain};
+pub use pair::{Pair, certainly, certainly_where, pair_certain, pair_of, scene_certain};
 pub use report::turned_report;
 pub use resource::resource_certain;
 pub use row::{brief_text, example_text, full_row, full_text, opening};

@@ -85,7 +85,7 @@ impl<'a: 's, 's> Scene<'a, 's> {
     }
 
     /// The keys that the resource gives.
-    fn part(self) -> &'s Part
+    pub fn part(self) -> &'s Part
         ensures { (other : WorldValue) (r : ℕ) → IsSeat self.entry.world.now self.entry.target other r
             → IsResource other r (λ resource. result.now.items ≡ resource.context) }
     {

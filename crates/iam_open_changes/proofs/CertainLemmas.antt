@@ -1,15 +1,20 @@
 -- What follows from what is certain of a request in each of two worlds.
-use Rattle.std.proofs.Common.{◌≡◌, inl, inr, ℕ, List, [], ◌∷◌, arith, refl, Err, IfOk, IfSome, MatchOption, None, Ok, Option, Result, Some}
+use Rattle.std.proofs.Common.{◌≡◌, inl, inr, ℕ, List, [], ◌∷◌, arith, refl, Bor, Err, IfOk, IfSome, MatchOption, None, Ok, Option, Result, Some}
 use Rattle.std.specs.List.{Contains}
 use Rattle.iam_context.specs.Context.{ContextValue}
+use Rattle.iam_layers.specs.Cell.{IsAction}
 use Rattle.iam_open.specs.InQuestion.{IsAlways, IsNever, MayBeGiven}
+use Rattle.iam_open.specs.Seat.{IsSeat}
 use Rattle.iam_open.specs.declared.certain.Certain.{Certain}
 use Rattle.iam_open.specs.declared.certain.Certain.TheVariants.{Always, Never}
-use Rattle.iam_open_changes.specs.Code.Certain.{CannotTurn, IsCertainIn}
+use Rattle.iam_open_changes.specs.Code.Certain.{CannotTurn, IsCertainIn, IsCertainOf}
 use Rattle.iam_open_changes.specs.InBoth.{IsAllowedIn, IsCleanIn, IsNeverTurned, IsRefusedIn}
 use Rattle.iam_open_changes.specs.declared.numbers.Numbers.{Numbers}
+use Rattle.iam_open_changes.specs.declared.side.Request.{Request}
+use Rattle.iam_open_changes.specs.declared.side.Side.TheVariants.{Has, Lacks}
 use Rattle.iam_open_changes.specs.declared.turn.Turn.{Turn}
 use Rattle.iam_open_changes.specs.declared.turn.Turn.TheVariants.{Gained, Lost}
+use Rattle.iam_open_changes.proofs.SideLemmas.{of_has, of_lacks, of_request}
 use Rattle.iam_world.specs.World.{WorldValue}
 
 abbrev AlwaysIn : WorldValue → Option Numbers → Type 0
@@ -48,12 +53,23 @@ never_turned Lost before after was now one other is is' (inr always) own moment 
     not_refused (before ∷ (after ∷ [])) after now own moment (is'.always always) (second before after) question.given question.clean_after refused
 
 -- what is certain of a request that the world has, and of one that it does not have
-pub certain_some : {E : Type 0} (world : WorldValue) (it : Numbers) (result : Result Certain E)
-    → ((worlds : List WorldValue) → Contains worlds world → IfOk result (λ certain. certain ≡ Always → IsAlways worlds world it.principal it.action it.resource))
-    → ((worlds : List WorldValue) → Contains worlds world → IfOk result (λ certain. certain ≡ Never → IsNever worlds world it.principal it.action it.resource))
-    → IfOk result (IsCertainIn world (Some it))
-certain_some world it (Ok certain) always never = record { always = λ is worlds among. always worlds among is; never = λ is worlds among. never worlds among is }
-certain_some world it (Err e) always never = tt
+pub certain_has : {E : Type 0} (request : Request) (result : Result Certain E)
+    → IfOk result (λ certain. (worlds : List WorldValue) (other : WorldValue) (a r : ℕ) → IsSeat request.scene.world.now request.scene.target other r
+    → IsAction other a request.action.now → Contains worlds other → certain ≡ Always → IsAlways worlds other request.scene.p a r)
+    → IfOk result (λ certain. (worlds : List WorldValue) (other : WorldValue) (a r : ℕ) → IsSeat request.scene.world.now request.scene.target other r
+    → IsAction other a request.action.now → Contains worlds other → certain ≡ Never → IsNever worlds other request.scene.p a r)
+    → IfOk result (IsCertainOf (Has request))
+certain_has request (Ok certain) always never =
+    of_has (λ other at. IsCertainIn other at certain) request
+    (of_request (λ other it. IsCertainIn other (Some it) certain) request
+    (λ other a r seat does. record {
+      always = λ is worlds among. always worlds other a r seat does among is;
+      never = λ is worlds among. never worlds other a r seat does among is;
+    }))
+certain_has request (Err e) always never = tt
 
-pub certain_none : (world : WorldValue) → IsCertainIn world None Never
+certain_none : (world : WorldValue) → IsCertainIn world None Never
 certain_none world = record { always = λ is. (let wrong : ⊥ = cc in wrong); never = λ is. tt }
+
+pub certain_lacks : (world : Bor WorldValue) → IsCertainOf (Lacks world) Never
+certain_lacks world = of_lacks (λ other at. IsCertainIn other at Never) world (certain_none world.now)

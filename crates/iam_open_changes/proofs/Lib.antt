@@ -12,4 +12,5 @@ mod RequestLemmas
 mod RequesterLemmas
 mod SameLemmas
 mod ShownLemmas
+mod SideLemmas
 mod WiderLemmas

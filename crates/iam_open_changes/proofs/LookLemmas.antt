@@ -1,5 +1,5 @@
 -- What is compared of two worlds where they may decide a request by the same.
-use Rattle.std.proofs.Common.{◌≡◌, ◌∙◌, ◌≤◌, ◌<◌, ℕ, zero, suc, List, [], ◌∷◌, ◌++◌, All, IsTrue, Some, ap, arith, codes, get_or, inl, length, refl, subst, sym}
+use Rattle.std.proofs.Common.{◌≡◌, ◌∙◌, ◌≤◌, ◌<◌, ℕ, zero, suc, List, [], ◌∷◌, ◌++◌, All, IsTrue, Option, Some, ap, arith, codes, false, get_or, inl, length, refl, subst, sym}
 use Rattle.std.proofs.lemmas.List.{append_cancel_left}
 use Rattle.std.specs.List.{slice_get}
 use Rattle.iam_context.specs.Context.{ContextValue}
@@ -9,14 +9,18 @@ use Rattle.iam_layers.specs.Derived.{derived_of, key, moment_keys, requester_key
 use Rattle.iam_layers.proofs.VerdictLemmas.{one_some}
 use Rattle.iam_match.specs.Requester.{RequesterValue}
 use Rattle.iam_open.specs.InQuestion.{MayBeGiven, at_moment, last_moment}
+use Rattle.iam_open.specs.Seat.{IsSeat}
 use Rattle.iam_open.proofs.GivenLemmas.{IsSingle}
 use Rattle.iam_open_changes.specs.Code.Kept.{AreKept, KeptValue}
 use Rattle.iam_open_changes.specs.Code.Same.{AllowNoMore, Excludes, HaveSameDerived, HaveSameFrame, HaveSameKnown, HaveSameTexts, HaveSameWho}
 use Rattle.iam_open_changes.specs.Laws.{NoMoreIsNotTurned}
 use Rattle.iam_open_changes.specs.Same.{AskSame, known_context}
+use Rattle.iam_open_changes.specs.Sides.{OfRequests}
 use Rattle.iam_open_changes.proofs.ReachLemmas.{reach_in}
+use Rattle.iam_open_changes.proofs.SideLemmas.{context_seated, principal_seated}
 use Rattle.iam_open_changes.specs.declared.numbers.Numbers.{Numbers}
 use Rattle.iam_open_changes.specs.declared.same.Excluded.{Excluded}
+use Rattle.iam_open_changes.specs.declared.side.Request.{Request}
 use Rattle.iam_policy.specs.declared.effect.Effect.TheVariants.{Allow, Deny}
 use Rattle.iam_world.specs.World.{PrincipalValue, ResourceValue, WorldValue}
 
@@ -145,6 +149,13 @@ excludes law before after was now excluded ones others same kept kept' gains los
       });
 }
 
+-- what excludes nothing
+pub excludes_nothing : (before after : WorldValue) (was now : Option Numbers) → Excludes before after was now (record { gains = false; losses = false })
+excludes_nothing before after was now = record {
+  gains = λ t. absurd (let wrong : ⊥ = cc in wrong);
+  losses = λ t. absurd (let wrong : ⊥ = cc in wrong);
+}
+
 -- requesters, and what is said of two numbers of a kind
 pub who_same : (before after : WorldValue) (was now : Numbers) (one other : RequesterValue)
     → IsPrincipal before was.principal (λ principal. one ≡ principal.requester)
@@ -160,6 +171,29 @@ texts_same before after was now text text' arn arn' does does' same (s, there, w
   action_after = subst (λ (z : List ℕ). IsAction after now.action z) (sym same) does';
   resource = (s, there, (s', there', sym what ∙ arns ∙ what'));
 }
+
+-- keys that are found to be the same: of the worlds, of the principals, and of the resources
+pub known_found : (before after : Request) (w w' q q' s s' : ContextValue) → w ≡ before.scene.world.now.context → w' ≡ after.scene.world.now.context
+    → w ≡ w' → IsPrincipal before.scene.world.now before.scene.p (λ principal. q ≡ principal.context)
+    → IsPrincipal after.scene.world.now after.scene.p (λ principal. q' ≡ principal.context) → q ≡ q'
+    → ((one : WorldValue) (r : ℕ) → IsSeat before.scene.world.now before.scene.target one r → IsResource one r (λ resource. s ≡ resource.context))
+    → ((other : WorldValue) (r : ℕ) → IsSeat after.scene.world.now after.scene.target other r → IsResource other r (λ resource. s' ≡ resource.context))
+    → s ≡ s' → OfRequests before after HaveSameKnown
+known_found before after w w' q q' s s' w_is w_is' worlds q_is q_is' principals s_is s_is' resources one other was now has has' =
+    let (x, x_at, x_is) =
+    subst (λ (p : ℕ). IsPrincipal one p (λ principal. q ≡ principal.context)) has.principal
+    (principal_seated (λ principal. q ≡ principal.context) before.scene.world.now before.scene.target one was.resource before.scene.p has.resource q_is) in
+    let (x', x_at', x_is') =
+    subst (λ (p : ℕ). IsPrincipal other p (λ principal. q' ≡ principal.context)) has'.principal
+    (principal_seated (λ principal. q' ≡ principal.context) after.scene.world.now after.scene.target other now.resource after.scene.p has'.resource q_is') in
+    let (y, y_at, y_is) = s_is one was.resource has.resource in
+    let (y', y_at', y_is') = s_is' other now.resource has'.resource in
+    record {
+      worlds = sym (context_seated before.scene.world.now before.scene.target one was.resource has.resource) ∙ sym w_is ∙ worlds ∙ w_is'
+          ∙ context_seated after.scene.world.now after.scene.target other now.resource has'.resource;
+      principals = (x, x_at, (x', x_at', sym x_is ∙ principals ∙ x_is'));
+      resources = (y, y_at, (y', y_at', sym y_is ∙ resources ∙ y_is'));
+    }
 
 -- ---- derived keys that are found to be the same
 

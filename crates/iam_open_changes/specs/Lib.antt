@@ -4,4 +4,5 @@ pub mod Laws
 pub mod Report
 pub mod Rows
 pub mod Same
+pub mod Sides
 pub mod Told

@@ -1,24 +1,27 @@
 // What is certain of a request in each of two worlds.
-ghost use Rattle.std.specs.Prelude.{◌≡◌, ◌≤◌, IfOk, IfSome, IsTrue};
+ghost use Rattle.std.specs.Prelude.{◌≤◌, ℕ, IfOk, IsTrue};
+ghost use Rattle.iam_layers.specs.Own.{IsCleanAt};
 ghost use Rattle.iam_open.specs.InQuestion.{last_moment};
-ghost use Rattle.iam_open_changes.specs.Code.Certain.{CannotTurn, IsCertainIn};
-ghost use Rattle.iam_open_changes.specs.InBoth.{IsCleanIn, IsThere};
+ghost use Rattle.iam_open.specs.Seat.{IsSeat};
+ghost use Rattle.iam_open_changes.specs.Code.Certain.{CannotTurn, IsCertainOf};
+ghost use Rattle.iam_open_changes.specs.InBoth.{IsCleanIn};
+ghost use Rattle.iam_open_changes.specs.Sides.{OfSide};
+ghost use Rattle.iam_world.specs.World.{WorldValue};
 
-use crate::numbers::Numbers;
+use crate::side::Side;
 use crate::turn::Turn;
 use iam_context::{ContextFault, Part};
-use iam_layers::{OutOfMemory, World};
-use iam_open::{Certain, certainly, certainly_where};
+use iam_layers::OutOfMemory;
+use iam_open::{Certain, Scene, pair_certain, pair_of, scene_certain};
 use std::alloc::Global;
 
 /// What is certain of the request in a world, in all contexts in question; never, where the world does not have it.
-pub fn certain_in(alloc: Global, world: &World, at: Option<Numbers>) -> Result<Certain, OutOfMemory>
-    requires { IsThere world.now at }
-    ensures { IfOk result (IsCertainIn world.now at) }
+pub fn certain_in(alloc: Global, side: Side<'_, '_>) -> Result<Certain, OutOfMemory>
+    ensures { IfOk result (IsCertainOf side.entry) }
 {
-    match at {
-        Some(it) => certainly(alloc, world, it.principal, it.action, it.resource),
-        None => Ok(Certain::Never),
+    match side {
+        Side::Has(request) => scene_certain(alloc, request.scene, request.action),
+        Side::Lacks(_) => Ok(Certain::Never),
     }
 }
 
@@ -33,19 +36,21 @@ pub fn cannot_turn(turn: Turn, before: Certain, after: Certain) -> bool
 }
 
 /// `true` only where the request may give these keys in the world, or the world does not have it.
-pub fn is_clean_in(
-    alloc: Global,
-    world: &World,
-    at: Option<Numbers>,
-    own: &Part,
-) -> Result<bool, OutOfMemory>
-    requires { IsThere world.now at }
-    ensures { IfOk result (λ clean. IsTrue clean → IsCleanIn world.now at own.now.items) }
+pub fn is_clean_in(alloc: Global, side: Side<'_, '_>, own: &Part) -> Result<bool, OutOfMemory>
+    ensures { IfOk result (λ clean. IsTrue clean → OfSide side.entry (λ other at. IsCleanIn other at own.now.items)) }
 {
-    let Some(it) = at else {
-        return Ok(true);
-    };
-    match world.check_own(alloc, it.principal, it.resource, own) {
+    match side {
+        Side::Has(request) => may_give(alloc, request.scene, own),
+        Side::Lacks(_) => Ok(true),
+    }
+}
+
+/// `true` only where who asks may give these keys.
+fn may_give(alloc: Global, scene: Scene<'_, '_>, own: &Part) -> Result<bool, OutOfMemory>
+    ensures { IfOk result (λ may. IsTrue may → (other : WorldValue) (r : ℕ) → IsSeat scene.entry.world.now scene.entry.target other r
+        → IsCleanAt other scene.entry.p r own.now.items) }
+{
+    match scene.check(alloc, own) {
         Ok(()) => Ok(true),
         Err(ContextFault::OutOfMemory) => Err(OutOfMemory),
         Err(_) => Ok(false),
@@ -55,25 +60,17 @@ pub fn is_clean_in(
 /// Whether the world allows the request in the contexts in which these keys have these values at this moment. Nothing is claimed of it.
 pub fn certain_where(
     alloc: Global,
-    world: &World,
-    at: Option<Numbers>,
+    side: Side<'_, '_>,
     own: &Part,
     moment: u64,
 ) -> Result<Certain, OutOfMemory>
-    requires there { IsThere world.now at }
-    requires clean { IsCleanIn world.now at own.now.items }
-    requires moment { moment ≤ last_moment }
+    requires { moment ≤ last_moment }
 {
-    match at {
-        Some(it) => certainly_where(
-            alloc,
-            world,
-            it.principal,
-            it.action,
-            it.resource,
-            own,
-            Some(moment),
-        ),
-        None => Ok(Certain::Never),
+    match side {
+        Side::Has(request) => {
+            let pair = pair_of(alloc, request.scene, own, Some(moment))?;
+            pair_certain(alloc, &pair, request.action)
+        }
+        Side::Lacks(_) => Ok(Certain::Never),
     }
 }

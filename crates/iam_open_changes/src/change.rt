@@ -1,8 +1,9 @@
 // What is told of a request of two worlds.
 ghost use Rattle.std.specs.Prelude.{IfOk, IsTrue};
-ghost use Rattle.iam_open_changes.specs.Code.Certain.{IsCertainIn};
+ghost use Rattle.iam_open_changes.specs.Code.Certain.{IsCertainOf};
 ghost use Rattle.iam_open_changes.specs.Code.Same.{Excludes};
 ghost use Rattle.iam_open_changes.specs.InBoth.{IsNeverTurned};
+ghost use Rattle.iam_open_changes.specs.Sides.{OfSides};
 ghost use Rattle.iam_open_changes.specs.Told.{IsChange, IsTold};
 
 use crate::certain::{cannot_turn, certain_in};
@@ -10,6 +11,7 @@ use crate::example::Example;
 use crate::numbers::Both;
 use crate::same::{Excluded, exclusions};
 use crate::seek::example;
+use crate::side::{Side, Sides};
 use crate::turn::Turn;
 use iam_layers::OutOfMemory;
 use iam_open::Certain;
@@ -43,19 +45,33 @@ pub struct Change {
 pub fn change_of(alloc: Global, both: Both<'_>) -> Result<Change, OutOfMemory>
     ensures { IfOk result (IsChange both.entry.before.now both.entry.after.now both.entry.was both.entry.now) }
 {
-    let before = certain_in(alloc, both.before, both.was)?;
-    let after = certain_in(alloc, both.after, both.now)?;
+    let none = Vec::new(alloc);
+    let sides = Sides {
+        before: Side::of(both.before, both.was, &none),
+        after: Side::of(both.after, both.now, &none),
+    };
+    scene_change(alloc, sides)
+}
+
+/// The same of a request for what may be no resource of the worlds.
+///
+/// AWS IAM User Guide, "AWS global condition context keys" and "Policy evaluation logic".
+pub fn scene_change(alloc: Global, sides: Sides<'_, '_>) -> Result<Change, OutOfMemory>
+    ensures { IfOk result (λ change. OfSides sides.entry (λ one other was now. IsChange one other was now change)) }
+{
+    let before = certain_in(alloc, sides.before)?;
+    let after = certain_in(alloc, sides.after)?;
     let asked = !cannot_turn(Turn::Gained, before, after)
         || !cannot_turn(Turn::Lost, before, after);
-    let excluded = excluded_if(alloc, both, asked)?;
-    let gained = told_of(alloc, both, Turn::Gained, before, after, excluded.gains)?;
-    let lost = told_of(alloc, both, Turn::Lost, before, after, excluded.losses)?;
+    let excluded = excluded_if(alloc, sides, asked)?;
+    let gained = told_of(alloc, sides, Turn::Gained, before, after, excluded.gains)?;
+    let lost = told_of(alloc, sides, Turn::Lost, before, after, excluded.losses)?;
     Ok(Change { gained, lost })
 }
 
 /// What is excluded, if it is asked.
-fn excluded_if(alloc: Global, both: Both<'_>, asked: bool) -> Result<Excluded, OutOfMemory>
-    ensures { IfOk result (Excludes both.entry.before.now both.entry.after.now both.entry.was both.entry.now) }
+fn excluded_if(alloc: Global, sides: Sides<'_, '_>, asked: bool) -> Result<Excluded, OutOfMemory>
+    ensures { IfOk result (λ excluded. OfSides sides.entry (λ one other was now. Excludes one other was now excluded)) }
 {
     if !asked {
         return Ok(Excluded {
@@ -63,22 +79,22 @@ fn excluded_if(alloc: Global, both: Both<'_>, asked: bool) -> Result<Excluded, O
             losses: false,
         });
     }
-    exclusions(alloc, both)
+    exclusions(alloc, sides)
 }
 
 /// What is told of one turn, where this is certain before and after, and maybe it is excluded.
 fn told_of(
     alloc: Global,
-    both: Both<'_>,
+    sides: Sides<'_, '_>,
     turn: Turn,
     before: Certain,
     after: Certain,
     excluded: bool,
 ) -> Result<Told, OutOfMemory>
-    requires before { IsCertainIn both.before.now both.was before }
-    requires after { IsCertainIn both.after.now both.now after }
-    requires excluded { IsTrue excluded → IsNeverTurned turn both.before.now both.after.now both.was both.now }
-    ensures { IfOk result (IsTold turn both.entry.before.now both.entry.after.now both.entry.was both.entry.now) }
+    requires before { IsCertainOf sides.before before }
+    requires after { IsCertainOf sides.after after }
+    requires excluded { IsTrue excluded → OfSides sides (IsNeverTurned turn) }
+    ensures { IfOk result (λ told. OfSides sides.entry (λ one other was now. IsTold turn one other was now told)) }
 {
     if excluded {
         return Ok(Told::Never);
@@ -86,7 +102,7 @@ fn told_of(
     if cannot_turn(turn, before, after) {
         return Ok(Told::Never);
     }
-    match example(alloc, both, turn)? {
+    match example(alloc, sides, turn)? {
         Some(shown) => Ok(Told::Shown(shown)),
         None => Ok(Told::Open),
     }

@@ -1,15 +1,16 @@
 // Contexts in question in which a request is gained or lost.
 ghost use Rattle.std.specs.Prelude.{◌≤◌, ◌∷◌, [], IfOk, IfSome, IsTrue};
 ghost use Rattle.iam_open.specs.InQuestion.{MayBeGiven, last_moment};
-ghost use Rattle.iam_open_changes.specs.InBoth.{IsCleanIn, IsThere, IsVerdictIn};
+ghost use Rattle.iam_open_changes.specs.InBoth.{IsVerdictIn};
+ghost use Rattle.iam_open_changes.specs.Sides.{OfSide, OfSides};
 ghost use Rattle.iam_open_changes.specs.Told.{IsShown};
 
 use crate::certain::is_clean_in;
-use crate::numbers::{Both, Numbers};
+use crate::side::{Side, Sides};
 use crate::turn::{Turn, is_turned};
 use iam_context::Part;
-use iam_layers::{OutOfMemory, Verdict, World};
-use iam_open::{LAST_MOMENT, are_single, verdict_in};
+use iam_layers::{OutOfMemory, Verdict};
+use iam_open::{LAST_MOMENT, are_single, scene_verdict};
 use std::alloc::Global;
 
 /// A context in question in which a request is gained or lost: the values of keys that nothing gives, the moment, and the verdicts of both
@@ -25,24 +26,24 @@ pub struct Example {
 /// The example that these keys and this moment are for this turn: where they are in question, and the request is gained or lost with them.
 pub fn example_of(
     alloc: Global,
-    both: Both<'_>,
+    sides: Sides<'_, '_>,
     turn: Turn,
     own: Part,
     moment: u64,
 ) -> Result<Option<Example>, OutOfMemory>
-    ensures { IfOk result (λ found. IfSome found (IsShown turn both.entry.before.now both.entry.after.now both.entry.was both.entry.now)) }
+    ensures { IfOk result (λ found. IfSome found (λ shown. OfSides sides.entry (λ one other was now. IsShown turn one other was now shown))) }
 {
-    if !may_be_given(both.before, both.after, &own, moment) {
+    if !may_be_given(sides, &own, moment) {
         return Ok(None);
     }
-    if !is_clean_in(alloc, both.before, both.was, &own)? {
+    if !is_clean_in(alloc, sides.before, &own)? {
         return Ok(None);
     }
-    if !is_clean_in(alloc, both.after, both.now, &own)? {
+    if !is_clean_in(alloc, sides.after, &own)? {
         return Ok(None);
     }
-    let before = said_in(alloc, both.before, both.was, &own, moment)?;
-    let after = said_in(alloc, both.after, both.now, &own, moment)?;
+    let before = said_in(alloc, sides.before, &own, moment)?;
+    let after = said_in(alloc, sides.after, &own, moment)?;
     if !is_turned(turn, &before, &after) {
         return Ok(None);
     }
@@ -57,38 +58,28 @@ pub fn example_of(
 /// The verdict on the request that gives these keys at this moment; none where the world does not have it.
 fn said_in(
     alloc: Global,
-    world: &World,
-    at: Option<Numbers>,
+    side: Side<'_, '_>,
     own: &Part,
     moment: u64,
 ) -> Result<Option<Verdict>, OutOfMemory>
-    requires there { IsThere world.now at }
-    requires clean { IsCleanIn world.now at own.now.items }
-    requires moment { moment ≤ last_moment }
-    ensures { IfOk result (IsVerdictIn world.now at own.now.items moment) }
+    requires { moment ≤ last_moment }
+    ensures { IfOk result (λ said. OfSide side.entry (λ other at. IsVerdictIn other at own.now.items moment said)) }
 {
-    match at {
-        Some(it) => {
-            let verdict = verdict_in(
-                alloc,
-                world,
-                it.principal,
-                it.action,
-                it.resource,
-                own,
-                moment,
-            )?;
+    match side {
+        Side::Has(request) => {
+            let verdict = scene_verdict(alloc, request.scene, request.action, own, moment)?;
             Ok(Some(verdict))
         }
-        None => Ok(None),
+        Side::Lacks(_) => Ok(None),
     }
 }
 
 /// `true` only where requests may have these keys at this moment where both worlds are asked about.
-fn may_be_given(before: &World, after: &World, own: &Part, moment: u64) -> bool
-    ensures { IsTrue result → MayBeGiven (before.now ∷ (after.now ∷ [])) own.now.items moment }
+fn may_be_given(sides: Sides<'_, '_>, own: &Part, moment: u64) -> bool
+    ensures given { IsTrue result → OfSides sides.entry (λ one other was now. MayBeGiven (one ∷ (other ∷ [])) own.now.items moment) }
+    ensures to { IsTrue result → moment ≤ last_moment }
 {
-    if moment < before.moment() || moment < after.moment() {
+    if moment < sides.before.moment() || moment < sides.after.moment() {
         return false;
     }
     if moment > LAST_MOMENT {

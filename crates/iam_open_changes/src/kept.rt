@@ -1,23 +1,22 @@
 // The statements of which it is not certain that they do not match a request, and what of each is open.
-ghost use Rattle.std.specs.Prelude.{◌≡◌, [], All, IfOk, MatchOption, map};
+ghost use Rattle.std.specs.Prelude.{◌≡◌, All, IfOk, MatchOption, map};
 ghost use Rattle.iam_condition.specs.Entry.{EntryValue};
 ghost use Rattle.iam_context.specs.Context.{ContextValue};
 ghost use Rattle.iam_decision.specs.Code.Scan.{placed_value};
 ghost use Rattle.iam_decision.specs.Matched.{IsMatched};
-ghost use Rattle.iam_layers.specs.Own.{IsCleanAt};
 ghost use Rattle.iam_match.specs.Entry.{EntryHolds};
 ghost use Rattle.iam_match.specs.Request.{access_of};
 ghost use Rattle.iam_open.specs.Code.Known.{AgreeOn, request_in};
 ghost use Rattle.iam_open_changes.specs.Code.Kept.{AreKept, AreKeptOf, IsKept, KeptValue};
-ghost use Rattle.iam_open_changes.specs.InBoth.{AreBelow};
+ghost use Rattle.iam_open_changes.specs.Sides.{OfRequest};
 
-use crate::numbers::Numbers;
+use crate::side::Request;
 use iam_condition::Entry;
-use iam_context::{Context, Part};
+use iam_context::Context;
 use iam_decision::Standing;
-use iam_layers::{OutOfMemory, World};
+use iam_layers::OutOfMemory;
 use iam_match::{Access, Grant, action_matches, grant_kind, principal_matches};
-use iam_open::{Certain, Known, entry_certain, known_of, resource_certain, statements_at};
+use iam_open::{Certain, Known, entry_certain, resource_certain};
 use iam_value::one_stamp;
 use std::alloc::Global;
 use std::marker::Model;
@@ -51,48 +50,25 @@ impl<'a> Model for Kept<'a> {
 }
 
 /// The statements that apply to the request, without those of which it is certain that they match in none of the contexts in question.
-pub fn kept_at(alloc: Global, world: &World, at: Numbers) -> Result<Vec<Kept<'_>>, OutOfMemory>
-    requires { AreBelow world.now at }
-    ensures { IfOk result (λ kept. AreKept world.entry.now at kept.items) }
-{
-    let none = Vec::new(alloc);
-    // The parts of a world's contexts can be joined, so that nothing is refused but memory.
-    if world
-        .check_own(alloc, at.principal, at.resource, &none)
-        .is_err()
-    {
-        return Err(OutOfMemory);
-    }
-    kept_with(alloc, world, at, &none)
-}
-
-/// The same, with a part that has no keys.
-fn kept_with<'a>(
-    alloc: Global,
-    world: &'a World,
-    at: Numbers,
-    none: &Part,
-) -> Result<Vec<Kept<'a>>, OutOfMemory>
-    requires below { AreBelow world.now at }
-    requires clean { IsCleanAt world.now at.principal at.resource none.now.items }
-    requires none { none.now.items ≡ [] }
-    ensures { IfOk result (λ kept. AreKept world.entry.now at kept.items) }
+pub fn kept_at<'a>(alloc: Global, request: Request<'a, '_>) -> Result<Vec<Kept<'a>>, OutOfMemory>
+    ensures { IfOk result (λ kept. OfRequest request.entry (λ other at. AreKept other at kept.items)) }
 {
     one_stamp();
-    let (p, r) = (at.principal, at.resource);
-    let derived = world.derived_at(alloc, p, r, world.moment())?;
-    let Ok(context) = world.own_context(alloc, p, r, none, &derived) else {
+    let scene = request.scene;
+    let none = Vec::new(alloc);
+    let derived = scene.derived(alloc, scene.world.moment())?;
+    // The parts of a world's contexts can be joined, so that nothing is refused but memory.
+    let Ok(context) = scene.context(alloc, &none, &derived) else {
         return Err(OutOfMemory);
     };
     let access = Access {
-        requester: world.requester(p),
-        resource: world.resource_text(r),
+        requester: scene.requester(),
+        resource: scene.text(),
         context: &context,
     };
-    let known = known_of(world, p, r, none, None);
-    let statements = statements_at(alloc, world, p, r)?;
-    let action = world.action_text(at.action);
-    kept_of(alloc, statements.as_slice(), access, action, &known)
+    let known = scene.known(&none, None);
+    let statements = scene.statements(alloc)?;
+    kept_of(alloc, statements.as_slice(), access, request.action, &known)
 }
 
 /// Those of these statements, for the requests of who asks for this whose contexts agree with its own on the keys that are known.

@@ -3,7 +3,7 @@
 //! A key is open for a request of two worlds where neither world gives it and it follows from nothing; so is the moment, from the later of
 //! theirs on. In the contexts in question the open keys have whatever values they may have, the same in both worlds. [`change_of`] says of
 //! a request that it is gained in one of these contexts, which it shows, or in none of them, or tells that this is not known; and so of
-//! losses.
+//! losses. [`scene_change`] says so of a request for what may be no resource of the worlds.
 //!
 //! How it goes: what is certain of a request in one of the worlds (`iam_open`) may exclude that it is gained, or lost (`certain.rt`). Where
 //! the one world has no allow that may match and that the other lacks, and lacks no deny, it is not lost to the other (`same.rt`,
@@ -25,11 +25,12 @@ mod row;
 mod rows;
 mod same;
 mod seek;
+mod side;
 mod trials;
 mod turn;
 mod wider;
 
-pub use change::{Change, Told, change_of};
+pub use change::{Change, Told, change_of, scene_change};
 pub use example::Example;
 pub use iam_changes::Requests;
 pub use iam_layers::{OutOfMemory, World};
@@ -40,4 +41,5 @@ pub use laws::{
 pub use numbers::{Both, Numbers};
 pub use report::{ChangesAnswer, any_key_changes_report};
 pub use rows::Kinds;
+pub use side::{Request, Side, Sides};
 pub use turn::Turn;

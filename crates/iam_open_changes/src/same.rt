@@ -5,17 +5,17 @@ ghost use Rattle.iam_match.specs.Principal.{rank};
 ghost use Rattle.iam_match.specs.Requester.{requester_arn, requester_name};
 ghost use Rattle.iam_open_changes.specs.Code.Implied.{Implies};
 ghost use Rattle.iam_open_changes.specs.Code.Same.{AllowNoMore, AreOfOneKind, Excludes, HaveSameDerived, HaveSameFrame, HaveSameKnown, HaveSameTexts, HaveSameWho, IsReached, ReachOthers, StandAlike};
-ghost use Rattle.iam_open_changes.specs.InBoth.{AreBelow};
 ghost use Rattle.iam_open_changes.specs.Same.{AskSame};
+ghost use Rattle.iam_open_changes.specs.Sides.{OfRequests, OfSides};
 
 use crate::implied::implies;
 use crate::kept::{Kept, kept_at};
 use crate::laws::no_more_is_not_turned;
-use crate::numbers::{Both, Numbers};
+use crate::side::{Request, Side, Sides};
 use iam_condition::Entry;
 use iam_context::{KeyName, Requester, Text, Values};
-use iam_decision::{Effect, Standing};
-use iam_layers::{OutOfMemory, World};
+use iam_decision::{Effect, Frame, Standing};
+use iam_layers::OutOfMemory;
 use iam_match::Grant;
 use iam_policy::Statement;
 use std::alloc::Global;
@@ -31,11 +31,11 @@ pub struct Excluded {
 
 /// What is excluded since wherever an allow of the one world matches, one of the other does too, and wherever a deny of the other does, one
 /// of the first.
-pub fn exclusions(alloc: Global, both: Both<'_>) -> Result<Excluded, OutOfMemory>
-    ensures { IfOk result (Excludes both.entry.before.now both.entry.after.now both.entry.was both.entry.now) }
+pub fn exclusions(alloc: Global, sides: Sides<'_, '_>) -> Result<Excluded, OutOfMemory>
+    ensures { IfOk result (λ excluded. OfSides sides.entry (λ one other was now. Excludes one other was now excluded)) }
 {
-    match (both.was, both.now) {
-        (Some(was), Some(now)) => excluded_of(alloc, both.before, both.after, was, now),
+    match (sides.before, sides.after) {
+        (Side::Has(before), Side::Has(after)) => excluded_of(alloc, before, after),
         _ => Ok(Excluded {
             gains: false,
             losses: false,
@@ -46,25 +46,21 @@ pub fn exclusions(alloc: Global, both: Both<'_>) -> Result<Excluded, OutOfMemory
 /// The same, of a request that both worlds have.
 fn excluded_of(
     alloc: Global,
-    before: &World,
-    after: &World,
-    was: Numbers,
-    now: Numbers,
+    before: Request<'_, '_>,
+    after: Request<'_, '_>,
 ) -> Result<Excluded, OutOfMemory>
-    requires was { AreBelow before.now was }
-    requires now { AreBelow after.now now }
-    ensures { IfOk result (Excludes before.now after.now (Some was) (Some now)) }
+    ensures { IfOk result (λ excluded. OfRequests before.entry after.entry (λ one other was now. Excludes one other (Some was) (Some now) excluded)) }
 {
     no_more_is_not_turned();
-    let same = ask_same(alloc, before, after, was, now)?;
+    let same = ask_same(alloc, before, after)?;
     if !same {
         return Ok(Excluded {
             gains: false,
             losses: false,
         });
     }
-    let one = kept_at(alloc, before, was)?;
-    let other = kept_at(alloc, after, now)?;
+    let one = kept_at(alloc, before)?;
+    let other = kept_at(alloc, after)?;
     let gains = allow_no_more(alloc, other.as_slice(), one.as_slice())?;
     let losses = allow_no_more(alloc, one.as_slice(), other.as_slice())?;
     Ok(Excluded { gains, losses })
@@ -215,40 +211,31 @@ fn is_implied(alloc: Global, entries: &[Entry], other: &Entry) -> Result<bool, O
 /// `true` only where the same is asked in both worlds.
 fn ask_same(
     alloc: Global,
-    before: &World,
-    after: &World,
-    was: Numbers,
-    now: Numbers,
+    before: Request<'_, '_>,
+    after: Request<'_, '_>,
 ) -> Result<bool, OutOfMemory>
-    requires was { AreBelow before.now was }
-    requires now { AreBelow after.now now }
-    ensures { IfOk result (λ same. IsTrue same → AskSame before.now after.now was now) }
+    ensures { IfOk result (λ same. IsTrue same → OfRequests before.entry after.entry AskSame) }
 {
-    if !has_same_who(before, after, was, now) {
+    if !has_same_who(before, after) {
         return Ok(false);
     }
-    if !has_same_texts(before, after, was, now) {
+    if !has_same_texts(before, after) {
         return Ok(false);
     }
-    if !has_same_known(before, after, was, now) {
+    if !has_same_known(before, after) {
         return Ok(false);
     }
-    if !has_same_frame(before, after, was, now) {
+    if !has_same_frame(before, after) {
         return Ok(false);
     }
-    has_same_derived(alloc, before, after, was, now)
+    has_same_derived(alloc, before, after)
 }
 
 /// `true` only where the same requester asks.
-fn has_same_who(before: &World, after: &World, was: Numbers, now: Numbers) -> bool
-    requires was { AreBelow before.now was }
-    requires now { AreBelow after.now now }
-    ensures { IsTrue result → HaveSameWho before.now after.now was now }
+fn has_same_who(before: Request<'_, '_>, after: Request<'_, '_>) -> bool
+    ensures { IsTrue result → OfRequests before.entry after.entry HaveSameWho }
 {
-    is_same_requester(
-        before.requester(was.principal),
-        after.requester(now.principal),
-    )
+    is_same_requester(before.scene.requester(), after.scene.requester())
 }
 
 /// `true` only where both are the same requester.
@@ -283,71 +270,59 @@ fn are_of_one_kind(one: Option<&str>, other: Option<&str>) -> bool
 }
 
 /// `true` only where both ask for an action and a resource of the same texts.
-fn has_same_texts(before: &World, after: &World, was: Numbers, now: Numbers) -> bool
-    requires was { AreBelow before.now was }
-    requires now { AreBelow after.now now }
-    ensures { IsTrue result → HaveSameTexts before.now after.now was now }
+fn has_same_texts(before: Request<'_, '_>, after: Request<'_, '_>) -> bool
+    ensures { IsTrue result → OfRequests before.entry after.entry HaveSameTexts }
 {
-    if before.action_text(was.action) != after.action_text(now.action) {
+    if before.action != after.action {
         return false;
     }
-    before.resource_text(was.resource) == after.resource_text(now.resource)
+    before.scene.text() == after.scene.text()
 }
 
 /// `true` only where both worlds, principals and resources give the same keys with the same values.
-fn has_same_known(before: &World, after: &World, was: Numbers, now: Numbers) -> bool
-    requires was { AreBelow before.now was }
-    requires now { AreBelow after.now now }
-    ensures { IsTrue result → HaveSameKnown before.now after.now was now }
+fn has_same_known(before: Request<'_, '_>, after: Request<'_, '_>) -> bool
+    ensures { IsTrue result → OfRequests before.entry after.entry HaveSameKnown }
 {
+    let (one, other) = (before.scene, after.scene);
     if !are_same_entries(
-        before.world_part().as_slice(),
-        after.world_part().as_slice(),
+        one.world.world_part().as_slice(),
+        other.world.world_part().as_slice(),
     ) {
         return false;
     }
     if !are_same_entries(
-        before.principal_part(was.principal).as_slice(),
-        after.principal_part(now.principal).as_slice(),
+        one.world.principal_part(one.p).as_slice(),
+        other.world.principal_part(other.p).as_slice(),
     ) {
         return false;
     }
-    are_same_entries(
-        before.resource_part(was.resource).as_slice(),
-        after.resource_part(now.resource).as_slice(),
-    )
+    are_same_entries(one.part().as_slice(), other.part().as_slice())
 }
 
 /// `true` only where the decision asks the same beside the statements.
-fn has_same_frame(before: &World, after: &World, was: Numbers, now: Numbers) -> bool
-    requires was { AreBelow before.now was }
-    requires now { AreBelow after.now now }
-    ensures { IsTrue result → HaveSameFrame before.now after.now was now }
+fn has_same_frame(before: Request<'_, '_>, after: Request<'_, '_>) -> bool
+    ensures { IsTrue result → OfRequests before.entry after.entry HaveSameFrame }
 {
-    let one = before.frame_with(
-        was.principal,
-        was.resource,
-        before.org_levels(was.principal),
-    );
-    let other = after.frame_with(now.principal, now.resource, after.org_levels(now.principal));
+    is_same_frame(before.scene.frame(), after.scene.frame())
+}
+
+fn is_same_frame(one: Frame, other: Frame) -> bool
+    ensures { IsTrue result → one ≡ other }
+{
     one == other
 }
 
 /// `true` only where the same keys follow from requester, resource and the moment of the world before.
 fn has_same_derived(
     alloc: Global,
-    before: &World,
-    after: &World,
-    was: Numbers,
-    now: Numbers,
+    before: Request<'_, '_>,
+    after: Request<'_, '_>,
 ) -> Result<bool, OutOfMemory>
-    requires was { AreBelow before.now was }
-    requires now { AreBelow after.now now }
-    ensures { IfOk result (λ same. IsTrue same → HaveSameDerived before.now after.now was now) }
+    ensures { IfOk result (λ same. IsTrue same → OfRequests before.entry after.entry HaveSameDerived) }
 {
-    let moment = before.moment();
-    let one = before.derived_at(alloc, was.principal, was.resource, moment)?;
-    let other = after.derived_at(alloc, now.principal, now.resource, moment)?;
+    let moment = before.scene.world.moment();
+    let one = before.scene.derived(alloc, moment)?;
+    let other = after.scene.derived(alloc, moment)?;
     Ok(are_same_entries(one.as_slice(), other.as_slice()))
 }
 

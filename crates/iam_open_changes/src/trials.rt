@@ -1,9 +1,7 @@
 // Values that are tried in both worlds for keys that neither gives. Nothing is claimed of them.
-ghost use Rattle.iam_open_changes.specs.InBoth.{AreBelow, IsThere};
-
-use crate::numbers::{Both, Numbers};
-use iam_layers::{OutOfMemory, World};
-use iam_open::{known_of, moments_of, statements_at, trials_of};
+use crate::side::{Side, Sides};
+use iam_layers::OutOfMemory;
+use iam_open::{Scene, moments_of, trials_of};
 use std::alloc::Global;
 
 /// A key that neither world gives, with the texts that are tried for it beside having none.
@@ -26,15 +24,15 @@ const KEYS: usize = 8;
 const TEXTS: usize = 48;
 
 /// What is tried for the request.
-pub fn tried_of(alloc: Global, both: Both<'_>) -> Result<Tried, OutOfMemory> {
-    let from = both.before.moment().max(both.after.moment());
+pub fn tried_of(alloc: Global, sides: Sides<'_, '_>) -> Result<Tried, OutOfMemory> {
+    let from = sides.before.moment().max(sides.after.moment());
     let mut tried = Tried {
         trials: Vec::new(alloc),
         moments: Vec::new(alloc),
     };
     tried.moments.push(from)?;
-    add_side(alloc, &mut tried, both, both.after, both.now, from)?;
-    add_side(alloc, &mut tried, both, both.before, both.was, from)?;
+    add_side(alloc, &mut tried, sides, sides.after, from)?;
+    add_side(alloc, &mut tried, sides, sides.before, from)?;
     Ok(tried)
 }
 
@@ -42,40 +40,36 @@ pub fn tried_of(alloc: Global, both: Both<'_>) -> Result<Tried, OutOfMemory> {
 fn add_side(
     alloc: Global,
     tried: &mut Tried,
-    both: Both<'_>,
-    world: &World,
-    at: Option<Numbers>,
+    sides: Sides<'_, '_>,
+    side: Side<'_, '_>,
     from: u64,
-) -> Result<(), OutOfMemory>
-    requires { IsThere world.now at }
-{
-    match at {
-        Some(it) => add_asked(alloc, tried, both, world, it, from),
-        None => Ok(()),
+) -> Result<(), OutOfMemory> {
+    match side {
+        Side::Has(request) => add_asked(alloc, tried, sides, request.scene, from),
+        Side::Lacks(_) => Ok(()),
     }
 }
 
-/// Adds what the statements ask for that apply to this request.
+/// Adds what the statements ask for that apply where this is asked for.
 fn add_asked(
     alloc: Global,
     tried: &mut Tried,
-    both: Both<'_>,
-    world: &World,
-    at: Numbers,
+    sides: Sides<'_, '_>,
+    scene: Scene<'_, '_>,
     from: u64,
-) -> Result<(), OutOfMemory>
-    requires { AreBelow world.now at }
-{
-    let (p, r) = (at.principal, at.resource);
+) -> Result<(), OutOfMemory> {
     let none = Vec::new(alloc);
-    let derived = world.derived(alloc, p, r)?;
-    let context = world.context(alloc, p, r, &derived)?;
-    let statements = statements_at(alloc, world, p, r)?;
-    let known = known_of(world, p, r, &none, Some(world.moment()));
-    let resource = world.resource_text(r);
-    let trials = trials_of(alloc, statements.as_slice(), resource, &context, &known)?;
+    let moment = scene.world.moment();
+    let derived = scene.derived(alloc, moment)?;
+    // The parts of a world's contexts can be joined, so that nothing is refused but memory.
+    let Ok(context) = scene.context(alloc, &none, &derived) else {
+        return Err(OutOfMemory);
+    };
+    let statements = scene.statements(alloc)?;
+    let known = scene.known(&none, Some(moment));
+    let trials = trials_of(alloc, statements.as_slice(), scene.text(), &context, &known)?;
     for trial in trials.as_slice() {
-        add_texts(alloc, tried, both, trial.key, trial.texts.as_slice())?;
+        add_texts(alloc, tried, sides, trial.key, trial.texts.as_slice())?;
     }
     let moments = moments_of(alloc, from, statements.as_slice())?;
     for &moment in moments.as_slice() {
@@ -87,21 +81,19 @@ fn add_asked(
 }
 
 /// Whether neither of the worlds gives the key.
-fn is_open(alloc: Global, both: Both<'_>, key: &str) -> bool {
-    !is_known(alloc, both.before, both.was, key) && !is_known(alloc, both.after, both.now, key)
+fn is_open(alloc: Global, sides: Sides<'_, '_>, key: &str) -> bool {
+    !is_known(alloc, sides.before, key) && !is_known(alloc, sides.after, key)
 }
 
 /// Whether the world gives the key, or it follows from something.
-fn is_known(alloc: Global, world: &World, at: Option<Numbers>, key: &str) -> bool
-    requires { IsThere world.now at }
-{
+fn is_known(alloc: Global, side: Side<'_, '_>, key: &str) -> bool {
     let none = Vec::new(alloc);
-    match at {
-        Some(it) => {
-            let moment = Some(world.moment());
-            known_of(world, it.principal, it.resource, &none, moment).has(key)
+    match side {
+        Side::Has(request) => {
+            let scene = request.scene;
+            scene.known(&none, Some(scene.world.moment())).has(key)
         }
-        None => false,
+        Side::Lacks(_) => false,
     }
 }
 
@@ -109,11 +101,11 @@ fn is_known(alloc: Global, world: &World, at: Option<Numbers>, key: &str) -> boo
 fn add_texts(
     alloc: Global,
     tried: &mut Tried,
-    both: Both<'_>,
+    sides: Sides<'_, '_>,
     key: &str,
     texts: &[String],
 ) -> Result<(), OutOfMemory> {
-    if !is_open(alloc, both, key) {
+    if !is_open(alloc, sides, key) {
         return Ok(());
     }
     for text in texts {

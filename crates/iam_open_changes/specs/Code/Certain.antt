@@ -3,7 +3,9 @@ use Rattle.std.specs.Prelude.{◌≡◌, ◌⊎◌, List, Contains, MatchOption,
 use Rattle.iam_open.specs.InQuestion.{IsAlways, IsNever}
 use Rattle.iam_open.specs.declared.certain.Certain.{Certain}
 use Rattle.iam_open.specs.declared.certain.Certain.TheVariants.{Always, Never}
+use Rattle.iam_open_changes.specs.Sides.{OfSide}
 use Rattle.iam_open_changes.specs.declared.numbers.Numbers.{Numbers}
+use Rattle.iam_open_changes.specs.declared.side.Side.{Side}
 use Rattle.iam_open_changes.specs.declared.turn.Turn.{Turn}
 use Rattle.iam_open_changes.specs.declared.turn.Turn.TheVariants.{Gained, Lost}
 use Rattle.iam_world.specs.World.{WorldValue}
@@ -13,6 +15,10 @@ pub record IsCertainIn (world : WorldValue) (at : Option Numbers) (certain : Cer
   pub always : certain ≡ Always
       → MatchOption at ⊥ (λ it. (worlds : List WorldValue) → Contains worlds world → IsAlways worlds world it.principal it.action it.resource)
   pub never : certain ≡ Never → IfSome at (λ it. (worlds : List WorldValue) → Contains worlds world → IsNever worlds world it.principal it.action it.resource)
+
+-- of what a world has of it, in each world that has what is asked for
+abbrev pub IsCertainOf : Side → Certain → Type 0
+IsCertainOf side certain = OfSide side (λ other at. IsCertainIn other at certain)
 
 -- what is allowed in any case before, or in none after, is not gained; and what is so the other way round is not lost
 abbrev pub CannotTurn : Turn → Certain → Certain → Type 0
